@@ -1,0 +1,4 @@
+pub mod Bytes
+pub mod ByFields
+mod Bets
+mod Tickets

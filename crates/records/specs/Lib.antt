@@ -1,0 +1,6 @@
+pub mod Bytes
+pub mod Tests
+pub mod Kind
+pub mod Fields
+pub mod Pools
+pub mod Ticket
