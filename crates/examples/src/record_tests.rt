@@ -1,4 +1,12 @@
 // Tickets: which keys and values are valid, and in which order keys stand.
+use limit_kinds::Least;
+use limit_kinds::LeastKind;
+use limit_kinds::Narrow;
+use limit_kinds::NarrowKind;
+use limit_kinds::Widest;
+use limit_kinds::WidestKind;
+use records::PoolLine;
+use records::PoolLineKind;
 use records::RecordKind;
 use records::Ticket;
 use records::TicketKind;
@@ -100,4 +108,48 @@ fn tickets_stand_by_day_course_serial() -> Result<(), Fail> {
         Ticket.compare(&key(5, 3, 7), &key(5, 3, 7)),
         Ordering::Equal,
     )
+}
+
+// A pool line: course 300, this day, this race, pool 1, runner 5.
+fn line(day: u16, race: u8) -> [u8; 9] {
+    let d = day.to_be_bytes();
+    [1, 44, d[0], d[1], race, 1, 5, 0, 0]
+}
+
+#[test]
+fn pool_lines_have_limits() -> Result<(), Fail> {
+    check(PoolLine.valid_key(&line(1, 1)) && PoolLine.valid_key(&line(365, 12)))?;
+    check(!PoolLine.valid_key(&line(0, 1)) && !PoolLine.valid_key(&line(366, 1)))?;
+    check(!PoolLine.valid_key(&line(1, 0)) && !PoolLine.valid_key(&line(1, 13)))?;
+    check(!PoolLine.valid_key(&[1, 44, 0, 1, 1, 4, 9, 5, 0])).note("a quinella ascends")?;
+    check(PoolLine.valid_value(&[0; 8])).note("a total of 0")?;
+    check(PoolLine.valid_value(&1_000_000_000_000_000u64.to_be_bytes()))?;
+    check(!PoolLine.valid_value(&1_000_000_000_000_001u64.to_be_bytes()))
+}
+
+#[test]
+fn pool_lines_stand_by_course_day_and_later_race_first() -> Result<(), Fail> {
+    check_eq(PoolLine.compare(&line(1, 9), &line(2, 9)), Ordering::Less)?;
+    check_eq(PoolLine.compare(&line(1, 9), &line(1, 8)), Ordering::Less)?;
+    check_eq(
+        PoolLine.compare(&line(1, 8), &line(1, 9)),
+        Ordering::Greater,
+    )?;
+    check_eq(PoolLine.compare(&line(1, 9), &line(1, 9)), Ordering::Equal)
+}
+
+#[test]
+fn limit_kinds_do_not_begin_with_255() -> Result<(), Fail> {
+    check(Least.valid_key(&[254]) && !Least.valid_key(&[255]) && !Least.valid_key(&[1, 1]))?;
+    check(
+        Narrow.valid_key(&[0, 255, 255])
+            && Narrow.valid_value(&[0; 4])
+            && !Narrow.valid_value(&[0; 3]),
+    )?;
+    check(
+        Widest.valid_key(&[0; 24])
+            && Widest.valid_value(&[0; 64])
+            && !Widest.valid_value(&[255; 64]),
+    )?;
+    check_eq(Narrow.compare(&[0, 2, 0], &[0, 1, 255]), Ordering::Greater)
 }

@@ -3,10 +3,10 @@
 use mathlib.Core.Path.{_≡_, refl, sym, ap, _∙_}
 use mathlib.Core.Bool.{Bool, true, false, cond}
 use mathlib.Core.List.{List, [], _∷_, _++_}
-use Prim.Native.Nat.{ℕ, _+_, _-_, _<_, _≤_}
+use Prim.Native.Nat.{ℕ, _+_, _-_, _<_, _≤_, min}
 use native.Mathlib.Omega.{arith}
 use lib.Dec.{ltb}
-use lib.ListN.{length, take, drop}
+use lib.ListN.{length, getD, take, drop}
 use Rattle.std.specs.Orderings.{thenBy, reversed, Ranked}
 use Rattle.std.specs.shelf.Lists.{All, sum}
 use Rattle.std.specs.declared.cmp.Ordering.{Ordering}
@@ -14,7 +14,14 @@ use Rattle.std.specs.declared.cmp.Ordering.the-variants.{Less, Equal, Greater}
 use Rattle.std.proofs.shelf.Ways.{tells}
 use Rattle.std.proofs.shelf.Sums.{sumBy-cons}
 use Rattle.std.proofs.shelf.Elements.{all-take, all-drop}
-use Rattle.std.proofs.shelf.Lists.{length-drop, length-take-le, take-append-drop, drop-drop, drop-all}
+use Rattle.std.proofs.shelf.Lists.{
+  length-drop,
+  length-take-le,
+  take-append-drop,
+  drop-drop,
+  drop-all,
+  drop-more,
+}
 use Rattle.records.specs.Bytes.{bytes, word, bytesOf}
 use Rattle.records.specs.Fields.{compared, byFields, fieldsFrom}
 use Rattle.records.specs.Kind.{Kind, Lawful}
@@ -49,15 +56,31 @@ fields-onward (x ∷ xs) (y ∷ ys) (z ∷ zs) h k = let m = fields-onward xs ys
 pub compared-is : (x y : ℕ) (r : Ordering) → Ranked r (x < y) (x ≡ y) (y < x) → r ≡ compared x y
 compared-is x y r h = grind (arith, tells)
 
-pub then-equal : (o : Ordering) → thenBy o Equal ≡ o
-then-equal Less = refl
-then-equal Equal = refl
-then-equal Greater = refl
+-- one field decides, or the rest does
+pub fields-step :
+    (a b : List ℕ) (i : ℕ) → i < length a → i < length b
+    → byFields (drop i a) (drop i b)
+    ≡ thenBy (compared (getD a i 0) (getD b i 0)) (byFields (drop (i + 1) a) (drop (i + 1) b))
+fields-step a b i ha hb =
+    ap (λ xs. byFields xs (drop i b)) (drop-more a i 0 ha)
+    ∙ ap (byFields (getD a i 0 ∷ drop (i + 1) a)) (drop-more b i 0 hb)
 
-pub then-then : (o p q : Ordering) → thenBy (thenBy o p) q ≡ thenBy o (thenBy p q)
-then-then Less p q = refl
-then-then Equal p q = refl
-then-then Greater p q = refl
+pub then-decided : (o p : Ordering) → (o ≡ Equal → ⊥) → thenBy o p ≡ o
+then-decided Less p ne = refl
+then-decided Equal p ne = absurd (ne refl)
+then-decided Greater p ne = refl
+
+-- where one list has ended, the lengths decide
+pub fields-ended :
+    (a b : List ℕ) (i : ℕ) → min (length a) (length b) ≡ i → byFields (drop i a) (drop i b) ≡ compared (length a) (length b)
+fields-ended a b i e = ends (drop i a) (drop i b) (length-drop i a) (length-drop i b)
+  where
+    ends : (xs ys : List ℕ) → length xs ≡ length a - i → length ys ≡ length b - i
+        → byFields xs ys ≡ compared (length a) (length b)
+    ends [] [] hx hy = let s : length a ≡ length b = omega arith in grind (arith, tells)
+    ends [] (y ∷ ys) hx hy = let s : length a < length b = omega arith in grind (arith, tells)
+    ends (x ∷ xs) [] hx hy = let s : length b < length a = omega arith in grind (arith, tells)
+    ends (x ∷ xs) (y ∷ ys) hx hy = absurd (omega arith)
 
 -- a front of so many bytes, from its number
 same-front :

@@ -12,8 +12,8 @@ use Rattle.std.specs.shelf.Lists.{All}
 use Rattle.std.proofs.shelf.Digits.{number-push}
 use Rattle.std.proofs.shelf.Elements.{all-take, all-getD}
 use Rattle.std.proofs.shelf.Tests.{and-parts, and-from, ltb-true, lt-ltb}
-use Rattle.std.proofs.shelf.Lists.{length-take-le, take-all, length-push}
-use Rattle.records.specs.Bytes.{bytes, word, bytesOf}
+use Rattle.std.proofs.shelf.Lists.{length-take-le, take-all, length-push, drop-more}
+use Rattle.records.specs.Bytes.{bytes, word, field, bytesOf}
 
 pub all-bytes : (xs : List ℕ) → bytes xs ≡ true → All (λ b. b < 256) xs
 all-bytes [] h = tt
@@ -66,3 +66,6 @@ bytesOf-four x =
     let a : x / 256 / 256 / 256 ≡ x / 16777216 = omega arith in
     let b : x / 256 / 256 ≡ x / 65536 = omega arith in
     cc
+
+pub field-one : (at : ℕ) (bs : List ℕ) → at < length bs → field at 1 bs ≡ getD bs at 0
+field-one at bs h = ap (λ xs. word (take 1 xs)) (drop-more bs at 0 h) ∙ omega arith

@@ -11,6 +11,7 @@ use Rattle.records.specs.Tests.{between}
 use Rattle.records.specs.Fields.{byFields}
 use Rattle.records.specs.Kind.{Kind}
 use Rattle.records.specs.Pools.{validBet}
+use Rattle.records.specs.Track.{validCourse, validDay, validRace}
 
 abbrev pub serialOf : List ℕ → ℕ
 serialOf = field 0 4
@@ -21,10 +22,11 @@ courseOf = field 4 2
 abbrev pub dayOf : List ℕ → ℕ
 dayOf = field 6 2
 
+abbrev pub keyInLimits : List ℕ → Bool
+keyInLimits key = between 1 99999999 (serialOf key) && validCourse (courseOf key) && validDay (dayOf key)
+
 abbrev pub validTicketKey : List ℕ → Bool
-validTicketKey key =
-    (eqb (length key) 8 && bytes key)
-    && (between 1 99999999 (serialOf key) && between 1 999 (courseOf key) && between 1 365 (dayOf key))
+validTicketKey key = (eqb (length key) 8 && bytes key) && keyInLimits key
 
 -- what tickets are sorted by, the first first
 abbrev pub ticketFields : List ℕ → List ℕ
@@ -33,7 +35,7 @@ ticketFields key = dayOf key ∷ courseOf key ∷ serialOf key ∷ []
 -- race, pool with its runners, stake, state
 abbrev pub valueInLimits : List ℕ → Bool
 valueInLimits value =
-    between 1 12 (getD value 0 0)
+    validRace (getD value 0 0)
     && validBet (getD value 1 0) (getD value 2 0 ∷ getD value 3 0 ∷ getD value 4 0 ∷ [])
     && between 1 10000000 (field 5 4 value)
     && between 1 3 (getD value 9 0)

@@ -1,4 +1,5 @@
-// Record kinds: fixed-width keys and values with their tests and the order of the keys, and the ticket as the first kind.
+// Record kinds: fixed-width keys and values with their tests and the order of the keys, and the kinds of a
+// race track: the ticket and the pool line.
 // A kind means what its `model` says, and keeps the laws of `Lawful`; code that is generic over kinds rests on these
 // alone. The numbers in records stand highest byte first, as on pages. It uses nothing but the language.
 ghost use mathlib.Core.Path.{_≡_};
@@ -8,9 +9,14 @@ ghost use Rattle.records.specs.Kind.{Kind, Lawful, recordWidth};
 use std::cmp::Ordering;
 
 pub mod numbers;
+pub mod order;
+pub mod pool_line;
 pub mod pools;
 pub mod ticket;
+mod track;
 
+pub use pool_line::PoolLine;
+pub use pool_line::PoolLineKind;
 pub use ticket::Ticket;
 pub use ticket::TicketKind;
 

@@ -7,10 +7,19 @@ mod words;
 
 use index::Index;
 use index::Status;
+use limit_kinds::Least;
+use limit_kinds::LeastKind;
+use limit_kinds::Narrow;
+use limit_kinds::NarrowKind;
+use limit_kinds::Widest;
+use limit_kinds::WidestKind;
+use records::PoolLine;
+use records::PoolLineKind;
 use records::Ticket;
 use records::TicketKind;
 use script::Command;
 use script::KindName;
+use script::StoreName;
 use script::Wrong;
 use session::Replay;
 use session::serve;
@@ -21,24 +30,36 @@ use std::io::BufReader;
 use stores::PageStore;
 use stores::PlainPages;
 use stores::PlainStore;
+use stores::ShiftingPages;
+use stores::ShiftingStore;
 
-// Answers commands on a new closed index over this area, once a kind is chosen.
-fn serve_plain<R: BufRead + Drop>(
+// Answers commands on a new closed index over this store, once a kind is chosen.
+fn serve_store<R: BufRead + Drop, S: PageStore + Drop>(
     rt: &LibcRuntime,
     replay: &mut Replay<R>,
-    kind: Option<KindName>,
+    kind: KindName,
+    store: S,
+) -> io::Result<Option<Command>> {
+    println!(rt, "size {}", store.size())?;
+    match kind {
+        KindName::Ticket => serve(rt, replay, Index::new(store, Ticket)),
+        KindName::PoolLine => serve(rt, replay, Index::new(store, PoolLine)),
+        KindName::Narrow => serve(rt, replay, Index::new(store, Narrow)),
+        KindName::Widest => serve(rt, replay, Index::new(store, Widest)),
+        KindName::Least => serve(rt, replay, Index::new(store, Least)),
+    }
+}
+
+fn serve_area<R: BufRead + Drop>(
+    rt: &LibcRuntime,
+    replay: &mut Replay<R>,
+    kind: KindName,
+    name: StoreName,
     area: &mut [u8],
 ) -> io::Result<Option<Command>> {
-    let store = PlainStore::new(area);
-    match kind {
-        None => {
-            replay.fail(rt, Wrong::KindFirst)?;
-            replay.next_command(rt)
-        }
-        Some(KindName::Ticket) => {
-            println!(rt, "size {}", store.size())?;
-            serve(rt, replay, Index::new(store, Ticket))
-        }
+    match name {
+        StoreName::Plain => serve_store(rt, replay, kind, PlainStore::new(area)),
+        StoreName::Shifting => serve_store(rt, replay, kind, ShiftingStore::new(area)),
     }
 }
 
@@ -55,9 +76,13 @@ fn begin<R: BufRead + Drop>(
             *kind = Some(name);
             replay.next_command(rt)
         }
-        Command::Plain(area) => {
+        Command::Store(name, area) => {
             let mut area = area;
-            serve_plain(rt, replay, *kind, area.as_mut_slice())
+            let Some(kind) = *kind else {
+                replay.fail(rt, Wrong::KindFirst)?;
+                return replay.next_command(rt);
+            };
+            serve_area(rt, replay, kind, name, area.as_mut_slice())
         }
         _ => {
             let wrong = if kind.is_none() {

@@ -22,13 +22,24 @@ pub(crate) struct Patch {
 #[derive(Clone, Copy)]
 pub(crate) enum KindName {
     Ticket,
+    PoolLine,
+    Narrow,
+    Widest,
+    Least,
+}
+
+// The stores that a script can choose.
+#[derive(Clone, Copy)]
+pub(crate) enum StoreName {
+    Plain,
+    Shifting,
 }
 
 #[derive(Drop)]
 pub(crate) enum Command {
     Kind(KindName),
-    // a plain store over this area
-    Plain(Vec<u8>),
+    // a store over this area
+    Store(StoreName, Vec<u8>),
     Shape(ShapeNumbers),
     Format(ShapeNumbers),
     Close,
@@ -61,12 +72,12 @@ impl Wrong {
             Wrong::NoCall => "there is no such call",
             Wrong::NoNumber => "a number has decimal digits only",
             Wrong::NoBytes => "bytes are pairs of lower-case hex digits, or - for none",
-            Wrong::NoStore => "there is no such store: it is plain",
+            Wrong::NoStore => "there is no such store: it is plain or shifting",
             Wrong::TooFew => "the call takes more words",
             Wrong::TooMany => "the call takes fewer words",
             Wrong::KindFirst => "the kind comes first",
             Wrong::StoreFirst => "there is no store yet",
-            Wrong::NoKind => "there is no such kind: it is 1",
+            Wrong::NoKind => "there is no such kind: it is 1, 2, 200, 201 or 202",
             Wrong::NoPage(..) => "there is no such page",
             Wrong::NoOffset => "the bytes end past the page",
             Wrong::IsOpen =>
@@ -162,11 +173,11 @@ impl<'a> Words<'a> {
         })
     }
 
-    fn plain(&mut self) -> Result<(), Wrong> {
-        if self.word()? == b"plain" {
-            Ok(())
-        } else {
-            Err(Wrong::NoStore)
+    fn store(&mut self) -> Result<StoreName, Wrong> {
+        match self.word()? {
+            b"plain" => Ok(StoreName::Plain),
+            b"shifting" => Ok(StoreName::Shifting),
+            _ => Err(Wrong::NoStore),
         }
     }
 
@@ -192,14 +203,17 @@ pub(crate) fn command_on(heap: Global, line: &[u8]) -> Result<Option<Command>, U
 }
 
 fn kind_numbered(number: u64) -> Result<KindName, Wrong> {
-    if number == 1 {
-        Ok(KindName::Ticket)
-    } else {
-        Err(Wrong::NoKind)
+    match number {
+        1 => Ok(KindName::Ticket),
+        2 => Ok(KindName::PoolLine),
+        200 => Ok(KindName::Narrow),
+        201 => Ok(KindName::Widest),
+        202 => Ok(KindName::Least),
+        _ => Err(Wrong::NoKind),
     }
 }
 
-// The bytes that a plain store can reach: 65,535 places, and a rest.
+// The bytes that a store can reach: 65,535 places, and a rest.
 const REACH: usize = 65_535 * 512 + 511;
 
 // A zeroed area, if memory has it. All of it is asked for, and filled as far as a store can reach.
@@ -217,18 +231,27 @@ fn zeroed(heap: Global, bytes: Option<u64>) -> Result<Vec<u8>, Wrong> {
     }
 }
 
+// The bytes of an area of so many pages; a shifting store has one place more.
+fn area_of(store: StoreName, pages: u64) -> Option<u64> {
+    let places = match store {
+        StoreName::Plain => pages,
+        StoreName::Shifting => pages.checked_add(1)?,
+    };
+    places.checked_mul(512)
+}
+
 fn named(heap: Global, name: &[u8], words: &mut Words) -> Result<Command, Unread> {
     let command = match name {
         b"kind" => Command::Kind(kind_numbered(words.number()?)?),
         b"store" => {
-            words.plain()?;
-            let places = words.number()?;
-            Command::Plain(zeroed(heap, places.checked_mul(512))?)
+            let store = words.store()?;
+            let pages = words.number()?;
+            Command::Store(store, zeroed(heap, area_of(store, pages))?)
         }
         b"area" => {
-            words.plain()?;
+            let store = words.store()?;
             let bytes = words.number()?;
-            Command::Plain(zeroed(heap, Some(bytes))?)
+            Command::Store(store, zeroed(heap, Some(bytes))?)
         }
         b"shape" => Command::Shape(words.numbers()?),
         b"format" => Command::Format(words.numbers()?),

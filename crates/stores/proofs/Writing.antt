@@ -48,14 +48,14 @@ low-same (x ∷ xs) h =
     let a : x % 256 ≡ x = omega (arith, h 0) in
     let b = low-same xs (λ i. h (suc i)) in cc
 
-place-same :
+pub place-same :
     (p : ℕ) (area b : List ℕ) → length b ≡ 512 → 512 * p + 512 ≤ length area → placeAt (written p area b) p ≡ b
 place-same p area b len h =
     let at : length (take (512 * p) area) ≡ 512 * p = length-take-le (512 * p) area (omega arith) in
     ap (take 512) (drop-at (take (512 * p) area) (b ++ drop 512 (drop (512 * p) area)) (512 * p) at)
     ∙ take-at b _ 512 len
 
-length-written :
+pub length-written :
     (p : ℕ) (area b : List ℕ) → length b ≡ 512 → 512 * p + 512 ≤ length area
     → length (written p area b) ≡ length area
 length-written p area b len h = simp (length-append, length-take, length-drop) (omega arith)
@@ -81,7 +81,7 @@ written-above a area b i d h len w =
     ∙ getD-drop a area (512 + (i - a - 512)) d
     ∙ ap (λ m. getD area m d) (omega arith)
 
-place-other :
+pub place-other :
     (p j : ℕ) (area b : List ℕ) → length b ≡ 512 → 512 * p + 512 ≤ length area → 512 * j + 512 ≤ length area
     → (j ≡ p → ⊥) → placeAt (written p area b) j ≡ placeAt area j
 place-other p j area b len h hj ne =

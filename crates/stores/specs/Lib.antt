@@ -1,3 +1,4 @@
 pub mod Store
 pub mod Places
 pub mod Plain
+pub mod Shifting

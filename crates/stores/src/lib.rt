@@ -1,15 +1,20 @@
 // Page stores: who keeps the pages. A store has a fixed number of pages of 512 bytes and counts the pages that were read
-// or written; what reading and writing do is said once, for every store. The plain store keeps its pages in a lent area.
+// or written; what reading and writing do is said once, for every store. The plain and the shifting store keep their pages in a
+// lent area.
 // It uses nothing but the language.
 ghost use mathlib.Core.Path.{_≡_};
 ghost use lib.ListN.{length};
 ghost use Rattle.std.specs.Results.{Cases};
 ghost use Rattle.stores.specs.Store.{StoreState, Lawful, WasRead, WasWritten, NotThere};
 
+mod places;
 pub mod plain;
+pub mod shifting;
 
 pub use plain::PlainPages;
 pub use plain::PlainStore;
+pub use shifting::ShiftingPages;
+pub use shifting::ShiftingStore;
 
 // A page as it is read and written.
 pub type Page = [u8; 512];

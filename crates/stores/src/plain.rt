@@ -10,11 +10,11 @@ ghost use Rattle.stores.specs.Plain.{plainState, plain-lawful};
 use crate::Page;
 use crate::PageStore;
 use crate::StoreFault;
+use crate::places::PAGE_BYTES;
+use crate::places::copy_place;
 
 // No store has more pages.
 const MOST_PAGES: usize = 65_535;
-
-const PAGE_BYTES: usize = 512;
 
 #[derive(Drop)]
 pub struct PlainStore<'a> {
@@ -27,16 +27,6 @@ fn places_in(bytes: usize) -> u32
     ensures { λ r. ⌜ r ≡ min 65535 (bytes / 512) ⌝ }
 {
     MOST_PAGES.min(bytes / PAGE_BYTES) as u32
-}
-
-// Copies the page at place p. The area is a parameter of its own, since of such a slice it is known that it holds bytes.
-fn copy_place(area: &[u8], p: u32, buffer: &mut Page)
-    requires { ⌜ 512 * p + 512 ≤ length (now area) ⌝ }
-    ensures page { λ _. ⌜ now (buffer .exit) ≡ placeAt (now (area .entry)) p ⌝ }
-    ensures bytes { λ _. ⌜ ((i : ℕ) → getD (now (buffer .exit)) i 0 < 256) ⌝ }
-{
-    let at = PAGE_BYTES * p as usize;
-    buffer.copy_from_slice(&area[at..at + PAGE_BYTES]);
 }
 
 impl<'a> PlainStore<'a> {

@@ -1,7 +1,7 @@
 use mathlib.Core.Path.{_∙_}
 use native.Mathlib.Omega.{arith}
 use Rattle.records.specs.Ticket.{valueInLimits}
-use Rattle.records.proofs.Tickets.{slice-tested}
+use Rattle.records.proofs.Slices.{slice-tested}
 use Rattle.records.proofs.ticket.TicketKind.valid_value.Needs as need
 
 pub returns-then-value-eq-VALUE-BYTES : need.returns-then-value-eq-VALUE-BYTES

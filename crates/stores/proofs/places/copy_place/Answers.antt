@@ -5,7 +5,7 @@ use lib.ListN.{getD}
 use Prim.Native.Nat.{_<_}
 use Rattle.stores.specs.Places.{placeAt}
 use Rattle.stores.proofs.Writing.{small-place}
-use Rattle.stores.proofs.plain.copy_place.Needs as need
+use Rattle.stores.proofs.places.copy_place.Needs as need
 
 pub returns : need.returns
 returns c =

@@ -1,0 +1,27 @@
+-- The proofs of the laws, each file over those before it.
+pub mod Compare
+pub mod Bounds
+pub mod Merge
+pub mod Merging
+pub mod Divide
+pub mod Batch
+pub mod Tombstones
+pub mod Heavy
+pub mod Children
+pub mod SKeys
+pub mod Belong
+pub mod Sizes
+pub mod Splits
+pub mod Sound
+pub mod Find
+pub mod Path
+pub mod Weigh
+pub mod Change
+pub mod Slots
+pub mod Levels
+pub mod Limits
+pub mod Room
+pub mod Map
+pub mod History
+pub mod Laws
+pub mod Keys
