@@ -1,7 +1,7 @@
 -- Three writes make an empty index: a page of zeros is the head page of no entries, and the node page of an empty leaf.
-use mathlib.Core.Path.{_≡_, refl, sym, ap, _∙_}
+use mathlib.Core.Path.{_≡_, sym, ap, _∙_}
 use mathlib.Core.List.{List, [], _∷_, _++_}
-use Prim.Native.Nat.{ℕ, _+_, _%_, _^_}
+use Prim.Native.Nat.{ℕ, _+_}
 use native.Mathlib.Omega.{arith}
 use lib.ListN.{set, replicate}
 use Rattle.records.proofs.Bytes.{bytesOf-two}
@@ -14,7 +14,8 @@ abbrev pub blank : List ℕ
 blank = replicate 512 0
 
 blank-node : blank ≡ nodePage [] [] 0
-blank-node = sym (ap (λ b. padded (((0 ∷ b) ++ []) ++ [])) (bytesOf-two 0))
+unfolding nodePage
+blank-node = sym (ap (λ b. padded (0 ∷ (b ++ ([] ++ [])))) (bytesOf-two 0))
 
 abbrev pub wrote : ℕ → List ℕ → StoreState → StoreState
 wrote p page s = record { pages = set (s .pages) p page; count = touchedOnce (s .count) }
@@ -26,6 +27,7 @@ pub wrote-empty :
     (kind : ℕ) (shape : Shape) (s₀ s₁ s₂ s₃ : StoreState) (page : List ℕ)
     → s₁ ≡ wrote 2 blank s₀ → s₂ ≡ wrote 1 blank s₁ → s₃ ≡ wrote 0 page s₂
     → page ≡ headerPage kind (emptyHeader shape) → s₃ ≡ emptied kind shape s₀
+unfolding headPage
 wrote-empty kind shape s₀ s₁ s₂ s₃ page e₁ e₂ e₃ is =
     let pages = s₀ .pages in
     e₃ ∙ ap (wrote 0 page) (e₂ ∙ ap (wrote 1 blank) e₁)

@@ -1,8 +1,7 @@
 -- What the code's headers stand for, and what a store holds after an empty index was written to it.
-use mathlib.Core.Path.{_≡_}
 use mathlib.Core.List.{List, [], _∷_}
-use Prim.Native.Nat.{ℕ, _+_, _/_, _%_, _^_, _≤_}
-use lib.ListN.{length, set}
+use Prim.Native.Nat.{ℕ, _+_, _/_, _%_, _^_}
+use lib.ListN.{set}
 use Rattle.shape.specs.Shape.{Shape}
 use Rattle.shape.specs.Made.{chosen}
 use Rattle.stores.specs.Store.{StoreState}

@@ -1,3 +1,15 @@
+-- What stands on the pages, then the inspection, from one page up to the whole store.
 pub mod Pages
 pub mod Header
 pub mod Faults
+pub mod Slots
+pub mod Holds
+pub mod Checked
+pub mod LeafPages
+pub mod Nodes
+pub mod Walk
+pub mod Inspection
+pub mod Laws
+pub mod Search
+pub mod Examples
+pub mod WalkReads

@@ -17,6 +17,7 @@ use stores::PageStore;
 
 pub mod faults;
 pub mod header;
+pub mod laws;
 
 pub use faults::PageFault;
 pub use faults::PageFromStore;

@@ -1,14 +1,9 @@
-use mathlib.Core.Path.{_≡_, refl, sym, ap, _∙_}
+use mathlib.Core.Path.{refl, sym, ap, _∙_}
 use mathlib.Core.List.{[]}
-use Prim.Native.Nat.{ℕ}
-use Rattle.records.proofs.Bytes.{bytesOf-two, bytesOf-four}
-use Rattle.layout.specs.Pages.{Header, padded, headerPage}
-use Rattle.layout.specs.Header.{headerOf, headerFront}
+use Rattle.layout.specs.Pages.{padded}
+use Rattle.layout.specs.Header.{headerOf}
+use Rattle.layout.proofs.HeaderPage.{front-is}
 use Rattle.layout.proofs.header.Header.page.Needs as need
-
-front-is : (kind : ℕ) (h : Header) → headerPage kind h ≡ padded (headerFront kind h)
-front-is kind h =
-    rw (bytesOf-two (h .shape .capacity), bytesOf-two (h .used), bytesOf-two (h .root), bytesOf-four (h .changes))
 
 pub returns : need.returns
 returns c =

@@ -1,0 +1,6 @@
+mod OnPage
+mod LeafTold
+mod LeafPagesTold
+mod Looking
+mod DTreeTold
+mod NodeTold
