@@ -1,6 +1,6 @@
 // The index: one tree of records on the pages of a store, for any store and any kind. It owns both, so nobody else
-// reaches the pages while it is open. Each call promises, in either state, which answer or refusal comes, what stands on
-// the pages and in the state after it, and the pages it touched. It uses all the layers below.
+// reaches the pages while it is open. Each call promises, in either state, which answer or refusal comes, what stands
+// on the pages and in the state after it, and the pages it touched. It uses all the layers below.
 ghost use mathlib.Core.Path.{_≡_};
 ghost use Prim.Native.Nat.{ℕ, _<_};
 ghost use lib.ListN.{length};
@@ -120,14 +120,16 @@ impl<S: PageStore, K: RecordKind> Index<S, K> {
 
     // The number of pages, P.
     pub fn size(&self) -> u32
-        ensures { λ r. ⌜ r ≡ length (seen (S·PageStore .state) (K·RecordKind .model) (now (self .entry)) .store .pages) ⌝ }
+        ensures { λ r. ⌜ r ≡ length (seen (S·PageStore .state) (K·RecordKind .model)
+            (now (self .entry)) .store .pages) ⌝ }
     {
         self.store.size()
     }
 
     // What these numbers would cost as a shape; no page is touched.
     pub fn weigh(&self, numbers: ShapeNumbers) -> Result<Costs, Refusal>
-        ensures { λ r. ⌜ r ≡ weighed (seen (S·PageStore .state) (K·RecordKind .model) (now (self .entry))) (asked numbers) ⌝ }
+        ensures { λ r. ⌜ r ≡ weighed (seen (S·PageStore .state) (K·RecordKind .model) (now (self .entry)))
+            (asked numbers) ⌝ }
     {
         let Some(shape) = Shape::new(numbers, self.kind.record_width()) else {
             return Err(Refusal {
@@ -161,7 +163,8 @@ impl<S: PageStore, K: RecordKind> Index<S, K> {
 
     // The tests of format, and then its writes.
     fn write_formatted(&mut self, numbers: ShapeNumbers) -> Result<(), IndexFault>
-        ensures { λ r. ⌜ Formatted (seen (S·PageStore .state) (K·RecordKind .model) (now (self .entry))) (asked numbers) r
+        ensures { λ r. ⌜ Formatted (seen (S·PageStore .state) (K·RecordKind .model) (now (self .entry)))
+            (asked numbers) r
             (seen (S·PageStore .state) (K·RecordKind .model) (now (self .exit))) ⌝ }
     {
         let Some(shape) = Shape::new(numbers, self.kind.record_width()) else {
@@ -205,7 +208,8 @@ impl<S: PageStore, K: RecordKind> Index<S, K> {
 
     // The call, which does what the state and the call together decide.
     pub fn perform(&mut self, call: Call) -> Result<Done, Refusal>
-        ensures answer { λ r. ⌜ r ≡ answerTo (seen (S·PageStore .state) (K·RecordKind .model) (now (self .entry))) call ⌝ }
+        ensures answer { λ r. ⌜ r ≡ answerTo
+            (seen (S·PageStore .state) (K·RecordKind .model) (now (self .entry))) call ⌝ }
         ensures after { λ _. ⌜ seen (S·PageStore .state) (K·RecordKind .model) (now (self .exit))
             ≡ afterCall (seen (S·PageStore .state) (K·RecordKind .model) (now (self .entry))) call ⌝ }
         ensures touches { λ r. ⌜ touchesOf r ≡ growth (S·PageStore .state (now (self .entry) .store) .count)

@@ -86,7 +86,8 @@ times-other slot x listed ne = let b = ne-eqb x slot (λ e. ne (sym e)) in rw b 
 
 pub lists-more :
     (l m : Listed) (x : ℕ) (listed : List ℕ) → x < 1024 → length (l .flags) ≡ 1024
-    → m .flags ≡ set (l .flags) x true → m .count ≡ min (min (l .count + 1) 18446744073709551615) 65535 → Lists l listed → Lists m (x ∷ listed)
+    → m .flags ≡ set (l .flags) x true → m .count ≡ min (min (l .count + 1) 18446744073709551615) 65535
+    → Lists l listed → Lists m (x ∷ listed)
 lists-more l m x listed small long f c h = record {
   flags = λ slot lt. ap (λ fs. getD fs slot false) f ∙ ⊎-elim
       (λ e. ap (λ i. getD (set (l .flags) x true) i false) e ∙ getD-set-same (l .flags) x true false (omega arith)
@@ -254,7 +255,8 @@ module _
 
 -- the parts of a page as the code takes them
 pub keys-part :
-    (page rest : List ℕ) (c : ℕ) → rest ≡ drop 3 page → take (length rest - 2 * c) (drop (2 * c) rest) ≡ drop (3 + 2 * c) page
+    (page rest : List ℕ) (c : ℕ) → rest ≡ drop 3 page → take (length rest - 2 * c) (drop (2 * c) rest) ≡ drop
+    (3 + 2 * c) page
 keys-part page rest c e = take-rest rest (2 * c) ∙ ap (drop (2 * c)) e ∙ drop-drop (2 * c) 3 page
 
 pub zero-part :

@@ -1,4 +1,5 @@
-// The inspection of a d-tree, which is the entries of one node: rule 7 on its head page, then one leaf page before the next.
+// The inspection of a d-tree, which is the entries of one node: rule 7 on its head page, then one leaf page before the
+// next.
 ghost use mathlib.Core.Path.{_≡_};
 ghost use Prim.Native.Nat.{ℕ, _+_, _-_, _*_, _<_, _≤_};
 ghost use mathlib.Core.Bool.{_&&_};
@@ -29,7 +30,8 @@ const WIDEST_KEY: usize = 24;
 fn last_key<K: RecordKind>(kind: &K, page: &[u8; 512], t: usize) -> [u8; 24]
     requires some { ⌜ 1 ≤ t ⌝ }
     requires room { ⌜ 9 + t * recordWidth (model (now kind)) ≤ 512 ⌝ }
-    ensures { λ r. ⌜ take (model (now (kind .entry)) .keyWidth) r ≡ keyOn (model (now (kind .entry))) (now (page .entry)) (t - 1) ⌝ }
+    ensures { λ r. ⌜ take (model (now (kind .entry)) .keyWidth) r ≡ keyOn (model (now (kind .entry)))
+        (now (page .entry)) (t - 1) ⌝ }
 {
     let mut last = [0; WIDEST_KEY];
     let key = key_at(kind, page, t - 1);
@@ -60,7 +62,8 @@ fn inspect_leaf_pages<S: PageStore, K: RecordKind>(
     requires entries { ⌜ n * «per_page» < s + «per_page» ⌝ }
     requires keys { ⌜ n * model (now kind) .keyWidth ≤ length (now firsts) ⌝ }
     requires pages { ⌜ p + n ≤ length (state (now store) .pages) ⌝ }
-    ensures answer { λ r. ⌜ r ≡ told (inspectLeafPages (model (now (kind .entry))) «per_page» (pageAt (state (now (store .entry)) .pages))
+    ensures answer { λ r. ⌜ r ≡ told
+        (inspectLeafPages (model (now (kind .entry))) «per_page» (pageAt (state (now (store .entry)) .pages))
         leaf (highOf (high .entry)) n s (lowOf (low .entry)) (now (firsts .entry)) p) ⌝ }
     ensures looked { λ _. ⌜ Looked (state (now (store .entry))) n (state (now (store .exit))) ⌝ }
 {
@@ -116,9 +119,11 @@ pub(crate) fn inspect_d_tree<S: PageStore, K: RecordKind>(
     requires high { ⌜ HighLong (model (now kind) .keyWidth) high ⌝ }
     requires low { ⌜ LowLong (model (now kind) .keyWidth) low ⌝ }
     requires pages { ⌜ p + 1 + ceiling s «per_page» ≤ length (state (now store) .pages) ⌝ }
-    ensures answer { λ r. ⌜ r ≡ told (inspectDTree (model (now (kind .entry))) «per_page» (pageAt (state (now (store .entry)) .pages))
+    ensures answer { λ r. ⌜ r ≡ told
+        (inspectDTree (model (now (kind .entry))) «per_page» (pageAt (state (now (store .entry)) .pages))
         leaf (highOf (high .entry)) s (lowOf (low .entry)) p) ⌝ }
-    ensures looked { λ _. ⌜ Looked (state (now (store .entry))) (1 + ceiling s «per_page») (state (now (store .exit))) ⌝ }
+    ensures looked { λ _. ⌜ Looked (state (now (store .entry))) (1 + ceiling s «per_page»)
+        (state (now (store .exit))) ⌝ }
 {
     let filled = (s + (per_page - 1)) / per_page;
     let mut head = [0; 512];

@@ -59,7 +59,8 @@ pub(crate) fn is_good_key<K: RecordKind>(kind: &K, low: Low<'_>, high: High<'_>,
     requires low { ⌜ LowLong (model (now kind) .keyWidth) low ⌝ }
     requires high { ⌜ HighLong (model (now kind) .keyWidth) high ⌝ }
     requires key { ⌜ length (now key) ≡ model (now kind) .keyWidth ⌝ }
-    ensures { λ r. ⌜ r ≡ goodKey (model (now (kind .entry))) (lowOf (low .entry)) (highOf (high .entry)) (now (key .entry)) ⌝ }
+    ensures { λ r. ⌜ r ≡ goodKey (model (now (kind .entry))) (lowOf (low .entry)) (highOf (high .entry))
+        (now (key .entry)) ⌝ }
 {
     kind.valid_key(key) & (is_above_low(kind, low, key) & is_below_high(kind, high, key))
 }

@@ -5,7 +5,8 @@ ghost use Prim.Native.Nat.{ℕ, _+_, _*_, _≤_};
 ghost use lib.ListN.{length, drop};
 ghost use Rattle.records.specs.Kind.{recordWidth};
 ghost use Rattle.layout.specs.Checked.{zeros};
-ghost use Rattle.layout.specs.LeafPages.{rawEntriesOn, marksOn, goodMarks, goodKeys, goodFirst, goodValue, goodValues, inspectLeafPage};
+ghost use Rattle.layout.specs.LeafPages.{rawEntriesOn, marksOn, goodMarks, goodKeys, goodFirst, goodValue};
+ghost use Rattle.layout.specs.LeafPages.{goodValues, inspectLeafPage};
 ghost use Rattle.inspect.specs.Bounds.{lowOf, highOf, LowLong, HighLong, told, keyOn, valueOn};
 use crate::bounds::High;
 use crate::bounds::Low;
@@ -106,7 +107,8 @@ fn is_good_value<K: RecordKind>(kind: &K, marked: bool, value: &[u8]) -> bool
 fn are_good_values<K: RecordKind>(kind: &K, page: &Page, t: usize) -> bool
     requires few { ⌜ t ≤ 64 ⌝ }
     requires room { ⌜ 9 + t * recordWidth (model (now kind)) ≤ 512 ⌝ }
-    ensures { λ r. ⌜ r ≡ goodValues (model (now (kind .entry))) (rawEntriesOn (model (now (kind .entry))) t (now (page .entry))) ⌝ }
+    ensures { λ r. ⌜ r ≡ goodValues (model (now (kind .entry)))
+        (rawEntriesOn (model (now (kind .entry))) t (now (page .entry))) ⌝ }
 {
     let marks = mark_word(page);
     for i in 0..t {
@@ -138,8 +140,8 @@ fn is_rest_zero<K: RecordKind>(kind: &K, page: &Page, t: usize) -> bool
     all_zero(&bytes[ENTRIES_AT + t * kind.record_width()..])
 }
 
-// Inspects page p, which is to have t entries; `first` is the key that the head page names, `leaf` whether the node is a
-// leaf node.
+// Inspects page p, which is to have t entries; `first` is the key that the head page names, `leaf` whether the node is
+// a leaf node.
 pub(crate) fn inspect_leaf_page<'a, K: RecordKind>(
     kind: &K,
     leaf: bool,
@@ -154,7 +156,8 @@ pub(crate) fn inspect_leaf_page<'a, K: RecordKind>(
     requires low { ⌜ LowLong (model (now kind) .keyWidth) low ⌝ }
     requires high { ⌜ HighLong (model (now kind) .keyWidth) high ⌝ }
     requires room { ⌜ 9 + t * recordWidth (model (now kind)) ≤ 512 ⌝ }
-    ensures { λ r. ⌜ r ≡ told (inspectLeafPage (model (now (kind .entry))) leaf t (lowOf (low .entry)) (highOf (high .entry))
+    ensures { λ r. ⌜ r ≡ told (inspectLeafPage (model (now (kind .entry))) leaf t (lowOf (low .entry))
+        (highOf (high .entry))
         (now (first .entry)) p (now (page .entry))) ⌝ }
 {
     if page[0] as usize != t {

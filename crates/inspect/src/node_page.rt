@@ -7,7 +7,8 @@ ghost use mathlib.Core.List.{List};
 ghost use Rattle.std.specs.declared.result.Result.{Result};
 ghost use Rattle.records.specs.Kind.{Kind};
 ghost use Rattle.shape.specs.Made.{chosen};
-ghost use Rattle.layout.specs.Nodes.{childCountOn, entryCountOn, childrenFrom, childrenOn, goodSlots, goodSKeys, listedAfter};
+ghost use Rattle.layout.specs.Nodes.{childCountOn, entryCountOn, childrenFrom, childrenOn};
+ghost use Rattle.layout.specs.Nodes.{goodSlots, goodSKeys, listedAfter};
 ghost use Rattle.layout.specs.Nodes.{inspectLeafNode, inspectInnerNode};
 ghost use Rattle.inspect.specs.Bounds.{lowOf, highOf, LowLong, HighLong, told};
 ghost use Rattle.std.specs.Vec.{made};
@@ -59,10 +60,12 @@ pub(crate) fn node_parts<'a>(page: &'a Page) -> NodeParts<'a>
 pub(crate) fn list_slots(slots: &[u8], n: usize, used: usize, listed: &mut Listed) -> bool
     requires long { ⌜ 2 * n + 2 ≤ length (now slots) ⌝ }
     requires few { ⌜ used ≤ 1024 ⌝ }
-    ensures below { λ r. ⌜ (r ≡ true → (w : ℕ) (s-keys : List ℕ) → SlotsBelow used (childrenFrom w n (now (slots .entry)) s-keys)) ⌝ }
+    ensures below { λ r. ⌜ (r ≡ true → (w : ℕ) (s-keys : List ℕ) → SlotsBelow used
+        (childrenFrom w n (now (slots .entry)) s-keys)) ⌝ }
     ensures lists { λ r. ⌜ ((w : ℕ) (s-keys before : List ℕ) → Lists (now (listed .entry)) before
         → (r ≡ goodSlots used before (childrenFrom w n (now (slots .entry)) s-keys))
-        × (r ≡ true → Lists (now (listed .exit)) (listedAfter before (childrenFrom w n (now (slots .entry)) s-keys)))) ⌝ }
+        × (r ≡ true → Lists (now (listed .exit))
+        (listedAfter before (childrenFrom w n (now (slots .entry)) s-keys)))) ⌝ }
 {
     let slot = slots[0] as usize * 256 + slots[1] as usize;
     if slot >= used {
@@ -91,7 +94,8 @@ pub(crate) fn are_good_s_keys<K: RecordKind>(
     requires low { ⌜ LowLong (model (now kind) .keyWidth) low ⌝ }
     requires high { ⌜ HighLong (model (now kind) .keyWidth) high ⌝ }
     requires long { ⌜ n * model (now kind) .keyWidth ≤ length (now keys) ⌝ }
-    ensures { λ r. ⌜ ((slots : List ℕ) → r ≡ goodSKeys (model (now (kind .entry))) (lowOf (low .entry)) (highOf (high .entry))
+    ensures { λ r. ⌜ ((slots : List ℕ) → r ≡ goodSKeys (model (now (kind .entry))) (lowOf (low .entry))
+        (highOf (high .entry))
         (childrenFrom (model (now (kind .entry)) .keyWidth) n slots (now (keys .entry)))) ⌝ }
 {
     if n == 0 {
@@ -149,7 +153,8 @@ pub(crate) fn inspect_inner_node<K: RecordKind>(
     requires high { ⌜ HighLong (model (now kind) .keyWidth) high ⌝ }
     ensures good { λ r. ⌜ (r ≡ Result.Ok tt → GoodInner (model (now (kind .entry)) .keyWidth) (chosen shape) used fewest
         (now (page .entry))) ⌝ }
-    ensures answer { λ r. ⌜ ((pages : ℕ → List ℕ) (before : List ℕ) → pages p ≡ now (page .entry) → Lists (now (listed .entry)) before
+    ensures answer { λ r. ⌜ ((pages : ℕ → List ℕ) (before : List ℕ) → pages p ≡ now (page .entry) → Lists
+        (now (listed .entry)) before
         → (r ≡ told (inspectInnerNode (model (now (kind .entry))) (chosen shape) pages used fewest before
         (lowOf (low .entry)) (highOf (high .entry)) p))
         × (r ≡ Result.Ok tt → Lists (now (listed .exit))

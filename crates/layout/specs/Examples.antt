@@ -1,5 +1,5 @@
--- Worked examples, all small enough to compute: stores of tickets, and what the inspection says of them whole and with a
--- byte changed, for every rule.
+-- Worked examples, all small enough to compute: stores of tickets, and what the inspection says of them whole and with
+-- a byte changed, for every rule.
 use mathlib.Core.Path.{_≡_}
 use mathlib.Core.List.{List, [], _∷_, _++_, map}
 use Prim.Native.Nat.{ℕ}
@@ -114,8 +114,8 @@ pub record Tombstones-on-pages : Type 0 where
   pub no-value-without-mark : said (poke 13 8 0 withTombstone) ≡ broken 13 rule.Values
   pub same-key-twice : said (poke 13 30 2 withTombstone) ≡ broken 13 rule.Keys
 
--- Three levels with no entries at all: leaf nodes in slots 0 to 3, inner nodes in slots 4 and 5, the root in slot 6. The
--- first s-key of slot 5 is the low end of its range, so its first child's range is empty.
+-- Three levels with no entries at all: leaf nodes in slots 0 to 3, inner nodes in slots 4 and 5, the root in slot 6.
+-- The first s-key of slot 5 is the low end of its range, so its first child's range is empty.
 abbrev inner : ℕ → ByteTree 0 → List ℕ → ByteTree 0 → ByteTree 1
 inner slot a sk b = record { slot = slot; entries = []; children = more a sk (one b) }
 

@@ -47,8 +47,8 @@ pub fn walk_reads_few_pages() -> u8
     0
 }
 
-// Stores that hold an index are accepted, and with a byte changed the first rule broken is told with its page, for every
-// rule.
+// Stores that hold an index are accepted, and with a byte changed the first rule broken is told with its page, for
+// every rule.
 pub fn examples_are_inspected() -> u8
     ensures { λ _. ⌜ Inspected-examples ⌝ }
 {

@@ -119,8 +119,8 @@ impl Header {
     }
 }
 
-// Writes an index of one empty leaf node: head page, node page, then page 0. The page with the highest number goes first,
-// so that a store that is too small is found before anything is written.
+// Writes an index of one empty leaf node: head page, node page, then page 0. The page with the highest number goes
+// first, so that a store that is too small is found before anything is written.
 pub fn write_empty<S: PageStore>(store: &mut S, kind: u8, shape: Shape) -> Result<(), PageFault>
     ensures { λ r. ⌜ Cases r
         (λ _. state (now (store .exit)) ≡ emptied kind (chosen shape) (state (now (store .entry))))

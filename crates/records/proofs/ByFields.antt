@@ -1,5 +1,5 @@
--- An order by a list of fields keeps the laws of a kind's order, whatever the fields are; two keys that agree in all their
--- fields are the same bytes.
+-- An order by a list of fields keeps the laws of a kind's order, whatever the fields are; two keys that agree in all
+-- their fields are the same bytes.
 use mathlib.Core.Path.{_≡_, refl, sym, ap, _∙_}
 use mathlib.Core.Bool.{Bool, true, false, cond}
 use mathlib.Core.List.{List, [], _∷_, _++_}
@@ -72,7 +72,8 @@ then-decided Greater p ne = refl
 
 -- where one list has ended, the lengths decide
 pub fields-ended :
-    (a b : List ℕ) (i : ℕ) → min (length a) (length b) ≡ i → byFields (drop i a) (drop i b) ≡ compared (length a) (length b)
+    (a b : List ℕ) (i : ℕ) → min (length a) (length b) ≡ i → byFields (drop i a) (drop i b) ≡ compared (length a)
+    (length b)
 fields-ended a b i e = ends (drop i a) (drop i b) (length-drop i a) (length-drop i b)
   where
     ends : (xs ys : List ℕ) → length xs ≡ length a - i → length ys ≡ length b - i

@@ -15,7 +15,8 @@ pub slice-tested :
 slice-tested n bs limits small e = rw (eq-eqb (length bs) n e, bytes-from bs small)
 
 -- what such a test says of its bytes
-pub tested-long : (n : ℕ) (bs : List ℕ) (limits : Bool) → (eqb (length bs) n && bytes bs) && limits ≡ true → length bs ≡ n
+pub tested-long : (n : ℕ) (bs : List ℕ) (limits : Bool) → (eqb (length bs) n && bytes bs) && limits ≡ true
+    → length bs ≡ n
 tested-long n bs limits h = eqb-true (length bs) n (and-parts _ (bytes bs) (and-parts _ limits h .0) .0)
 
 pub tested-bytes :

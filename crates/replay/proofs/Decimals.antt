@@ -1,4 +1,5 @@
--- Reading digits from the left: a number that has passed the limit stays past it, so it may be cut there at every digit.
+-- Reading digits from the left: a number that has passed the limit stays past it, so it may be cut there at every
+-- digit.
 use mathlib.Core.Path.{_≡_, refl, sym, ap, _∙_}
 use mathlib.Core.Bool.{Bool, true, false, _&&_, cond}
 use mathlib.Core.List.{List, [], _∷_}

@@ -1,5 +1,5 @@
--- A page written into the spare place: it is read from there, and every other page from where it was, since no page lies
--- in the spare place.
+-- A page written into the spare place: it is read from there, and every other page from where it was, since no page
+-- lies in the spare place.
 use mathlib.Core.Path.{_≡_, refl, sym, ap, _∙_}
 use mathlib.Core.List.{List, [], map}
 use mathlib.Core.Logic.{⊎-elim}

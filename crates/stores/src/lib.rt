@@ -1,7 +1,6 @@
-// Page stores: who keeps the pages. A store has a fixed number of pages of 512 bytes and counts the pages that were read
-// or written; what reading and writing do is said once, for every store. The plain and the shifting store keep their pages in a
-// lent area.
-// It uses nothing but the language.
+// Page stores: who keeps the pages. A store has a fixed number of pages of 512 bytes and counts the pages that were
+// read or written; what reading and writing do is said once, for every store. The plain and the shifting store keep
+// their pages in a lent area. It uses nothing but the language.
 ghost use mathlib.Core.Path.{_≡_};
 ghost use lib.ListN.{length};
 ghost use Rattle.std.specs.Results.{Cases};

@@ -1,5 +1,5 @@
-// The shifting store: one place more than pages. A write goes into the spare place, and the page's old place becomes the
-// spare one, so that a page is never overwritten in place.
+// The shifting store: one place more than pages. A write goes into the spare place, and the page's old place becomes
+// the spare one, so that a page is never overwritten in place.
 ghost use mathlib.Core.Path.{_≡_};
 ghost use denote.Ref.{now};
 ghost use Prim.Native.Nat.{ℕ, _+_, _*_, _/_, _<_, _≤_};
@@ -24,7 +24,8 @@ use crate::places::copy_place;
 
 const MOST_PAGES: usize = 1024;
 
-// The place of each page, and the spare one. It stands alone, since a struct that lends parts of an area has no invariant.
+// The place of each page, and the spare one. It stands alone, since a struct that lends parts of an area has no
+// invariant.
 #[derive(Clone, Copy)]
 struct Table {
     places: [u16; 1024],
@@ -58,7 +59,8 @@ impl Table {
     // Page p goes into the spare place, and its old place is the spare one.
     fn shift(&mut self, p: usize)
         requires { ⌜ p < now self .size ⌝ }
-        ensures places { λ _. ⌜ now (self .exit) .places ≡ set (now (self .entry) .places) p (now (self .entry) .spare) ⌝ }
+        ensures places { λ _. ⌜ now (self .exit) .places ≡ set (now (self .entry) .places) p
+            (now (self .entry) .spare) ⌝ }
         ensures spare { λ _. ⌜ now (self .exit) .spare ≡ getD (now (self .entry) .places) p 0 ⌝ }
         ensures size { λ _. ⌜ now (self .exit) .size ≡ now (self .entry) .size ⌝ }
     {
@@ -160,7 +162,8 @@ impl<'a> ShiftingStore<'a> {
 pub impl PageStore for ShiftingStore<'_> as ShiftingPages {
     ghost state = { λ s. shiftingState (now (s .area)) (s .table .places) (s .table .size) (s .count) };
 
-    ghost lawful = { λ s. shifting-lawful (now (s .area)) (s .table .places) (s .table .size) (s .table .spare) (s .count)
+    ghost lawful = { λ s. shifting-lawful (now (s .area)) (s .table .places) (s .table .size) (s .table .spare)
+        (s .count)
         (s .table .few) (s .table .inside) };
 
     fn size(&self) -> u32 {

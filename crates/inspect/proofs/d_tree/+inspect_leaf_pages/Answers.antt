@@ -37,7 +37,8 @@ returns-then-n-eq0 g t c =
     let k = g .K·RecordKind .model (c .args .kind .now) in
     let s = g .S·PageStore .state (c .args .store .now) in
     record {
-      answer = pages-none k (c .args .per-page) (pageAt (s .pages)) (c .args .leaf) (highOf (c .args .high)) (c .args .n)
+      answer = pages-none k (c .args .per-page) (pageAt (s .pages)) (c .args .leaf) (highOf (c .args .high))
+          (c .args .n)
           (c .args .s) (lowOf (c .args .low)) (c .args .firsts .now) (c .args .p) (c .if-n-eq0 .taken);
       looked = looked-none s (c .args .n) (g .S·PageStore .lawful (c .args .store .now) .counted);
     }

@@ -21,7 +21,8 @@ returns-then-not-is-good-head g c =
     let s₀ = g .S·PageStore .state (c .args .store .now) in
     let s₁ = g .S·PageStore .state (c .read .last .self) in
     record {
-      answer = head-broken k (c .args .per-page) (pageAt (s₀ .pages)) (c .args .leaf) (highOf (c .args .high)) (c .args .s)
+      answer = head-broken k (c .args .per-page) (pageAt (s₀ .pages)) (c .args .leaf) (highOf (c .args .high))
+          (c .args .s)
           (lowOf (c .args .low)) (c .args .p) (c .read .last .buffer) (c .in-Continue-read .ensures tt .page)
           (sym (c .is-good-head .ensures) ∙ c .if-not-is-good-head .taken);
       looked = looked-once s₀ s₁ _ (c .in-Continue-read .ensures tt .then) (omega arith);
@@ -73,7 +74,8 @@ returns g c =
     c .inspect-leaf-pages .ensures .answer in
     record {
       answer = h
-          ∙ pages-same k E (pageAt (s₁ .pages)) (pageAt (s₀ .pages)) (c .args .leaf) hi filled (c .args .s) (c .args .s) lo
+          ∙ pages-same k E (pageAt (s₁ .pages)) (pageAt (s₀ .pages)) (c .args .leaf) hi filled (c .args .s)
+          (c .args .s) lo
           firsts firsts (p + 1) same refl refl
           ∙ sym (head-good k E (pageAt (s₀ .pages)) (c .args .leaf) hi (c .args .s) lo p head
           (c .in-Continue-read .ensures tt .page) (sym (c .is-good-head .ensures) ∙ c .if-not-is-good-head .left));

@@ -11,7 +11,8 @@ use Rattle.records.specs.Bytes.{word}
 use Rattle.layout.specs.Nodes.{childrenFrom, goodSlots, listedAfter}
 use Rattle.inspect.specs.declared.node_page.Listed.{Listed}
 use Rattle.inspect.specs.Listed.{Lists, SlotsBelow}
-use Rattle.inspect.proofs.NodeTold.{first-slot, lists-more, slots-past, slots-twice, slots-last, slots-more, below-last, below-more}
+use Rattle.inspect.proofs.NodeTold.{first-slot, lists-more, slots-past, slots-twice, slots-last, slots-more}
+use Rattle.inspect.proofs.NodeTold.{below-last, below-more}
 use Rattle.inspect.proofs.node_page.+list_slots.Needs as need
 
 pub returns-then-slot-used : need.returns-then-slot-used
@@ -85,12 +86,14 @@ returns-else-n-eq0 t c = record {
       let after = lists-more l m slot before (omega (arith, c .if-slot-used .left, c .pre .few)) long refl counted h in
       let rest : take (length slots - 2) (drop 2 slots) ≡ drop 2 slots = take-rest slots 2 in
       let q = c .list-slots .ensures .lists w (drop w s-keys) (slot ∷ before) after in
-      let to₁ : goodSlots used (slot ∷ before) (childrenFrom w (n - 1) (take (length slots - 2) (drop 2 slots)) (drop w s-keys))
+      let to₁ : goodSlots used (slot ∷ before)
+      (childrenFrom w (n - 1) (take (length slots - 2) (drop 2 slots)) (drop w s-keys))
       ≡ goodSlots used before (childrenFrom w n slots s-keys) =
       ap (λ ys. goodSlots used (slot ∷ before) (childrenFrom w (n - 1) ys (drop w s-keys))) rest
       ∙ ap (λ i. goodSlots used (i ∷ before) (childrenFrom w (n - 1) (drop 2 slots) (drop w s-keys))) (sym x)
       ∙ sym (r .0) in
-      let to₂ : listedAfter (slot ∷ before) (childrenFrom w (n - 1) (take (length slots - 2) (drop 2 slots)) (drop w s-keys))
+      let to₂ : listedAfter (slot ∷ before)
+      (childrenFrom w (n - 1) (take (length slots - 2) (drop 2 slots)) (drop w s-keys))
       ≡ listedAfter before (childrenFrom w n slots s-keys) =
       ap (λ ys. listedAfter (slot ∷ before) (childrenFrom w (n - 1) ys (drop w s-keys))) rest
       ∙ ap (λ i. listedAfter (i ∷ before) (childrenFrom w (n - 1) (drop 2 slots) (drop w s-keys))) (sym x)

@@ -111,7 +111,8 @@ returns-then-not-list-slots g c = record {
       ap (λ m. childrenFrom (k .keyWidth) (m - 1) rest (drop (3 + 2 * childCountOn page) page)) counted
       ∙ ap (λ r. childrenFrom (k .keyWidth) (childCountOn page - 1) r (drop (3 + 2 * childCountOn page) page)) rested in
       let q = c .list-slots .ensures .lists (k .keyWidth) (drop (3 + 2 * childCountOn page) page) before h in
-      let slots : c .list-slots .result ≡ goodSlots (c .args .used) before (childrenOn (k .keyWidth) (pages (c .args .p))) =
+      let slots : c .list-slots .result ≡ goodSlots (c .args .used) before
+      (childrenOn (k .keyWidth) (pages (c .args .p))) =
       q .0 ∙ ap (goodSlots (c .args .used) before) cs-are
       ∙ ap (λ x. goodSlots (c .args .used) before (childrenOn (k .keyWidth) x)) (sym is) in (
         inner-slots k shape pages (c .args .used) (c .args .fewest) before (lowOf (c .args .low))
@@ -168,7 +169,8 @@ returns-then-not-are-good-s-keys g c = record {
       ap (λ m. childrenFrom (k .keyWidth) (m - 1) rest (drop (3 + 2 * childCountOn page) page)) counted
       ∙ ap (λ r. childrenFrom (k .keyWidth) (childCountOn page - 1) r (drop (3 + 2 * childCountOn page) page)) rested in
       let q = c .list-slots .ensures .lists (k .keyWidth) (drop (3 + 2 * childCountOn page) page) before h in
-      let slots : c .list-slots .result ≡ goodSlots (c .args .used) before (childrenOn (k .keyWidth) (pages (c .args .p))) =
+      let slots : c .list-slots .result ≡ goodSlots (c .args .used) before
+      (childrenOn (k .keyWidth) (pages (c .args .p))) =
       q .0 ∙ ap (goodSlots (c .args .used) before) cs-are
       ∙ ap (λ x. goodSlots (c .args .used) before (childrenOn (k .keyWidth) x)) (sym is) in
       let keyed : keys ≡ drop (3 + 2 * childCountOn page) page =
@@ -176,7 +178,8 @@ returns-then-not-are-good-s-keys g c = record {
       let s-keys : c .are-good-s-keys .result
       ≡ goodSKeys k (lowOf (c .args .low)) (highOf (c .args .high)) (childrenOn (k .keyWidth) (pages (c .args .p))) =
       c .are-good-s-keys .ensures rest
-      ∙ ap (λ ys. goodSKeys k (lowOf (c .args .low)) (highOf (c .args .high)) (childrenFrom (k .keyWidth) (n - 1) rest ys)) keyed
+      ∙ ap (λ ys. goodSKeys k (lowOf (c .args .low)) (highOf (c .args .high))
+      (childrenFrom (k .keyWidth) (n - 1) rest ys)) keyed
       ∙ ap (goodSKeys k (lowOf (c .args .low)) (highOf (c .args .high))) cs-are
       ∙ ap (λ x. goodSKeys k (lowOf (c .args .low)) (highOf (c .args .high)) (childrenOn (k .keyWidth) x)) (sym is) in (
         inner-s-keys k shape pages (c .args .used) (c .args .fewest) before (lowOf (c .args .low))
@@ -249,7 +252,8 @@ returns-then-not-all-zero g c = record {
       ap (λ m. childrenFrom (k .keyWidth) (m - 1) rest (drop (3 + 2 * childCountOn page) page)) counted
       ∙ ap (λ r. childrenFrom (k .keyWidth) (childCountOn page - 1) r (drop (3 + 2 * childCountOn page) page)) rested in
       let q = c .list-slots .ensures .lists (k .keyWidth) (drop (3 + 2 * childCountOn page) page) before h in
-      let slots : c .list-slots .result ≡ goodSlots (c .args .used) before (childrenOn (k .keyWidth) (pages (c .args .p))) =
+      let slots : c .list-slots .result ≡ goodSlots (c .args .used) before
+      (childrenOn (k .keyWidth) (pages (c .args .p))) =
       q .0 ∙ ap (goodSlots (c .args .used) before) cs-are
       ∙ ap (λ x. goodSlots (c .args .used) before (childrenOn (k .keyWidth) x)) (sym is) in
       let keyed : keys ≡ drop (3 + 2 * childCountOn page) page =
@@ -257,7 +261,8 @@ returns-then-not-all-zero g c = record {
       let s-keys : c .are-good-s-keys .result
       ≡ goodSKeys k (lowOf (c .args .low)) (highOf (c .args .high)) (childrenOn (k .keyWidth) (pages (c .args .p))) =
       c .are-good-s-keys .ensures rest
-      ∙ ap (λ ys. goodSKeys k (lowOf (c .args .low)) (highOf (c .args .high)) (childrenFrom (k .keyWidth) (n - 1) rest ys)) keyed
+      ∙ ap (λ ys. goodSKeys k (lowOf (c .args .low)) (highOf (c .args .high))
+      (childrenFrom (k .keyWidth) (n - 1) rest ys)) keyed
       ∙ ap (goodSKeys k (lowOf (c .args .low)) (highOf (c .args .high))) cs-are
       ∙ ap (λ x. goodSKeys k (lowOf (c .args .low)) (highOf (c .args .high)) (childrenOn (k .keyWidth) x)) (sym is) in
       let zeroed : c .all-zero .result ≡ (let m = childCountOn (pages (c .args .p)) in
@@ -321,19 +326,24 @@ returns g c =
           let cs = childrenOn (k .keyWidth) page in
           let cs-are : childrenFrom (k .keyWidth) (n - 1) rest (drop (3 + 2 * childCountOn page) page) ≡ cs =
           ap (λ m. childrenFrom (k .keyWidth) (m - 1) rest (drop (3 + 2 * childCountOn page) page)) counted
-          ∙ ap (λ r. childrenFrom (k .keyWidth) (childCountOn page - 1) r (drop (3 + 2 * childCountOn page) page)) rested in
+          ∙ ap (λ r. childrenFrom (k .keyWidth) (childCountOn page - 1) r
+          (drop (3 + 2 * childCountOn page) page)) rested in
           let q = c .list-slots .ensures .lists (k .keyWidth) (drop (3 + 2 * childCountOn page) page) before h in
-          let slots : c .list-slots .result ≡ goodSlots (c .args .used) before (childrenOn (k .keyWidth) (pages (c .args .p))) =
+          let slots : c .list-slots .result ≡ goodSlots (c .args .used) before
+          (childrenOn (k .keyWidth) (pages (c .args .p))) =
           q .0 ∙ ap (goodSlots (c .args .used) before) cs-are
           ∙ ap (λ x. goodSlots (c .args .used) before (childrenOn (k .keyWidth) x)) (sym is) in
           let keyed : keys ≡ drop (3 + 2 * childCountOn page) page =
           keys-part page rest n rested ∙ ap (λ m. drop (3 + 2 * m) page) counted in
           let s-keys : c .are-good-s-keys .result
-          ≡ goodSKeys k (lowOf (c .args .low)) (highOf (c .args .high)) (childrenOn (k .keyWidth) (pages (c .args .p))) =
+          ≡ goodSKeys k (lowOf (c .args .low)) (highOf (c .args .high))
+          (childrenOn (k .keyWidth) (pages (c .args .p))) =
           c .are-good-s-keys .ensures rest
-          ∙ ap (λ ys. goodSKeys k (lowOf (c .args .low)) (highOf (c .args .high)) (childrenFrom (k .keyWidth) (n - 1) rest ys)) keyed
+          ∙ ap (λ ys. goodSKeys k (lowOf (c .args .low)) (highOf (c .args .high))
+          (childrenFrom (k .keyWidth) (n - 1) rest ys)) keyed
           ∙ ap (goodSKeys k (lowOf (c .args .low)) (highOf (c .args .high))) cs-are
-          ∙ ap (λ x. goodSKeys k (lowOf (c .args .low)) (highOf (c .args .high)) (childrenOn (k .keyWidth) x)) (sym is) in
+          ∙ ap (λ x. goodSKeys k (lowOf (c .args .low)) (highOf (c .args .high)) (childrenOn (k .keyWidth) x))
+          (sym is) in
           let zeroed : c .all-zero .result ≡ (let m = childCountOn (pages (c .args .p)) in
           zeros (drop (3 + 2 * m + (m - 1) * k .keyWidth) (pages (c .args .p)))) =
           c .all-zero .ensures

@@ -10,7 +10,8 @@ use Rattle.records.proofs.numbers.word_of.Needs as need
 
 -- at most seven bytes were read before this one
 small : (n i : ℕ) → n < 256 ^ i → i < 8 → n < 256 ^ 7
-small n i h few = let p : 256 ^ i ≤ 256 ^ 7 = pow-le-pow-right (omega arith) {i = i} {j = 7} (omega arith) in omega arith
+small n i h few = let p : 256 ^ i ≤ 256 ^ 7 = pow-le-pow-right (omega arith) {i = i} {j = 7}
+    (omega arith) in omega arith
 
 grows : (n i b : ℕ) → n < 256 ^ i → b < 256 → n * 256 + b < 256 ^ (i + 1)
 grows n i b h low = let p : 256 ^ (i + 1) ≡ 256 ^ i * 256 = rw add-one (pow-suc 256 i) in omega arith

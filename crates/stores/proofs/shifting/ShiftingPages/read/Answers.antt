@@ -14,7 +14,8 @@ pub fetch-requires : need.fetch-requires
 fetch-requires c κs =
     let s = c .args .self .now in
     let n = length-shifting (s .area .now) (s .table .places) (s .table .size) in
-    let r = held-room (c .args .p) (s .table .size) (length (s .area .now)) (omega (arith, n, c .in-rest .ensures tt)) in
+    let r = held-room (c .args .p) (s .table .size) (length (s .area .now))
+    (omega (arith, n, c .in-rest .ensures tt)) in
     record { page = r .0; room = r .2 }
 
 pub returns : need.returns
@@ -34,5 +35,9 @@ returns c =
           (c .touch .ensures .area)
           ∙ ap (λ m. record { pages = shiftingPages (s .area .now) (m .places) (m .size); count = t .count % 2 ^ 64 })
           (c .touch .ensures .table)
-          ∙ ap (λ k. record { pages = shiftingPages (s .area .now) (s .table .places) (s .table .size); count = k }) count;
+          ∙ ap (λ k. record {
+            pages = shiftingPages (s .area .now) (s .table .places)
+                (s .table .size);
+            count = k;
+          }) count;
     }

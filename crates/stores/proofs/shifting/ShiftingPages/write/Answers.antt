@@ -39,7 +39,11 @@ returns c =
     record {
       there = c .in-rest .ensures tt;
       then =
-          ap (λ a. record { pages = shiftingPages a (t .table .places) (t .table .size); count = t .count % 2 ^ 64 }) area
+          ap (λ a. record {
+            pages = shiftingPages a (t .table .places)
+                (t .table .size);
+            count = t .count % 2 ^ 64;
+          }) area
           ∙ ap (λ m. record {
             pages = shiftingPages (written spare (s .area .now) b) m (t .table .size);
             count = t .count % 2 ^ 64;
