@@ -6,7 +6,10 @@ ghost use Prim.Native.Nat.{ℕ, _<_};
 ghost use lib.ListN.{length};
 ghost use Rattle.std.specs.Results.{Cases};
 ghost use Rattle.stores.specs.Store.{pageAt, WasRead, NotThere};
+ghost use Rattle.std.specs.Vec.{made};
 ghost use Rattle.shape.specs.Made.{asked};
+ghost use Rattle.tree.specs.History.{empty};
+ghost use Rattle.layout.specs.Holds.{Holds};
 ghost use Rattle.index.specs.Seen.{Seen, seen, closed};
 ghost use Rattle.index.specs.Calls.{
   growth,
@@ -178,8 +181,8 @@ impl<S: PageStore, K: RecordKind> Index<S, K> {
         Ok(())
     }
 
-    // Writes an empty index of this shape, one leaf node in slot 0, and opens it; refused, it leaves everything.
-    pub fn format(&mut self, numbers: ShapeNumbers) -> Result<Done, Refusal>
+    // Format, with the touches told.
+    fn format_index(&mut self, numbers: ShapeNumbers) -> Result<Done, Refusal>
         ensures answer { λ r. ⌜ r ≡ formatAnswer (seen (S·PageStore .state) (K·RecordKind .model) (now (self .entry)))
             (asked numbers) ⌝ }
         ensures after { λ _. ⌜ seen (S·PageStore .state) (K·RecordKind .model) (now (self .exit))
@@ -194,6 +197,21 @@ impl<S: PageStore, K: RecordKind> Index<S, K> {
             Ok(()) => Ok(Done { touches }),
             Err(fault) => Err(Refusal { fault, touches }),
         }
+    }
+
+    // Writes an empty index of this shape, one leaf node in slot 0, and opens it; refused, it leaves everything.
+    pub fn format(&mut self, numbers: ShapeNumbers) -> Result<Done, Refusal>
+        ensures answer { λ r. ⌜ r ≡ formatAnswer (seen (S·PageStore .state) (K·RecordKind .model) (now (self .entry)))
+            (asked numbers) ⌝ }
+        ensures after { λ _. ⌜ seen (S·PageStore .state) (K·RecordKind .model) (now (self .exit))
+            ≡ afterFormat (seen (S·PageStore .state) (K·RecordKind .model) (now (self .entry))) (asked numbers) ⌝ }
+        ensures touches { λ r. ⌜ touchesOf r ≡ growth (S·PageStore .state (now (self .entry) .store) .count)
+            (S·PageStore .state (now (self .exit) .store) .count) ⌝ }
+        ensures holds { λ r. ⌜ made r (λ _. Holds (K·RecordKind .model (now (self .entry) .kind))
+            (S·PageStore .state (now (self .exit) .store) .pages)
+            (record { shape = asked numbers; index = empty })) ⌝ }
+    {
+        self.format_index(numbers)
     }
 
     // Closes the index, in either state; no page is touched.

@@ -16,6 +16,6 @@ mod WalkAccepts
 mod Tree
 mod Inspection
 mod Search
-mod EmptyHeld
+pub mod EmptyHeld
 mod Inspected
 mod WalkReads
