@@ -1,6 +1,6 @@
 -- Small facts that both directions of the walk share: children and the slots that stand for them on a page, and the
 -- pages of a slot as a node page and a d-tree.
-use mathlib.Core.Path.{_≡_, refl, ap}
+use mathlib.Core.Path.{_≡_, refl, sym, ap, _∙_}
 use mathlib.Core.Bool.{Bool, true, false}
 use mathlib.Core.List.{List, [], _∷_, map}
 use Prim.Native.Nat.{ℕ, suc, _+_}
@@ -56,6 +56,15 @@ module _ {X Y : Type 0} (f : X → Y) where
 
 abbrev pub slotsOf : {C : Type 0} → Children (List ℕ) (Node (List ℕ) (List ℕ) C) → SlotChildren
 slotsOf = mapChildren (λ t. t .slot)
+
+-- a node page by the slots of the children with the s-keys between them
+pub node-with-slots :
+    {C : Type 0} (n : ℕ) (ts : Children (List ℕ) (Node (List ℕ) (List ℕ) C)) (bytes : List ℕ)
+    → bytes ≡ nodePage (map (λ t. t .slot) (childList ts)) (sKeyList ts) n
+    → bytes ≡ nodePage (childList (slotsOf ts)) (sKeyList (slotsOf ts)) n
+node-with-slots n ts bytes e =
+    e ∙ ap (λ x. nodePage x (sKeyList ts) n) (sym (list-map (λ t. t .slot) ts))
+    ∙ ap (λ x. nodePage (childList (slotsOf ts)) x n) (sym (keys-map (λ t. t .slot) ts))
 
 -- good entries of a leaf node and of an inner node
 

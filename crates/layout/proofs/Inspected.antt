@@ -1,5 +1,5 @@
 -- The examples hold by computation: each store has a few dozen pages.
-use mathlib.Core.Path.{_≡_, refl}
+use mathlib.Core.Path.{refl}
 use Rattle.records.specs.Bytes.{bytesOf}
 use Rattle.layout.specs.Pages.{nodePage, headPage, leafPage, markWord}
 use Rattle.layout.specs.Slots.{nodePageOf, firstKeys}

@@ -1,21 +1,24 @@
-mod Padded
-mod Empty
-mod HeaderPage
-mod Checked
-mod RawEntries
-mod LeafPage
-mod DTree
-mod NodePage
-mod SlotsListed
-mod Fits
-mod Nodes
-mod SameOrder
-mod Children
-mod WalkHolds
-mod WalkAccepts
-mod Tree
-mod Inspection
-mod Search
+-- The proofs of the laws, each file over those before it.
+pub mod Padded
+pub mod Checked
+pub mod HeaderPage
+pub mod Empty
+pub mod RawEntries
+pub mod LeafPage
+pub mod DTree
+pub mod NodePage
+pub mod SlotsListed
+pub mod Fits
+pub mod Nodes
+pub mod Children
+pub mod WalkHolds
+pub mod WalkAccepts
+pub mod Tree
+pub mod SameOrder
+pub mod Inspection
 pub mod EmptyHeld
-mod Inspected
-mod WalkReads
+pub mod Named
+pub mod WalkReads
+pub mod Search
+pub mod Descent
+pub mod Inspected

@@ -1,6 +1,6 @@
 -- A tree that stands on the pages, is valid and sound and has each used slot once is accepted by the walk: every test
 -- passes, and no slot was listed before, since each is one node's.
-use mathlib.Core.Path.{_≡_, refl, sym, ap, _∙_, subst}
+use mathlib.Core.Path.{_≡_, refl, sym, subst}
 use mathlib.Core.Bool.{true, false}
 use mathlib.Core.List.{List, [], map}
 use Prim.Native.Nat.{ℕ, zero, suc, _+_, _<_, _≤_}
@@ -14,7 +14,6 @@ use Rattle.shape.specs.Shape.{Shape, leastChildrenOf}
 use Rattle.tree.specs.Entries.{Low, from, High, until}
 use Rattle.tree.specs.Children.{Children, one, more, count, sumOf, EachIn}
 use Rattle.tree.specs.Tree.{slotSum}
-use Rattle.layout.specs.Pages.{nodePage}
 use Rattle.layout.specs.Slots.{nodePageOf, childList, sKeyList}
 use Rattle.layout.specs.Holds.{ByteTree, Each, NodesStand, ValidKey, ValidTree}
 use Rattle.layout.specs.LeafPages.{orderedBelow}
@@ -25,8 +24,8 @@ use Rattle.layout.proofs.NodePage.{TwoBytes}
 use Rattle.layout.proofs.Nodes.{InnerNodeHeld, leaf-node-accepted, inner-node-accepted}
 use Rattle.layout.proofs.SlotsListed.{AllBelow, weigh-listed, slots-pass, slots-below}
 use Rattle.layout.proofs.Fits.{Fits}
-use Rattle.layout.proofs.Children.{count-map, list-map, keys-map, ascend-map, slotsOf, good-in-leaf, good-in-inner}
-use Rattle.layout.proofs.Children.{dtree-of, SoundHere}
+use Rattle.layout.proofs.Children.{count-map, keys-map, ascend-map, slotsOf, good-in-leaf, good-in-inner}
+use Rattle.layout.proofs.Children.{node-with-slots, dtree-of, SoundHere}
 
 -- a node's own slot is among those of its tree
 
@@ -34,12 +33,12 @@ pub own-slot : (x h : ℕ) (t : ByteTree h) → is x (t .slot) ≤ slotSum (is x
 own-slot x zero t = omega arith
 own-slot x (suc h) t = omega arith
 
-own-slots :
+pub own-slots :
     (x h : ℕ) (ts : Children (List ℕ) (ByteTree h)) → sumOf (is x) (slotsOf ts) ≤ sumOf (slotSum (is x) h) ts
 own-slots x h (one t) = own-slot x h t
 own-slots x h (more t sk ts) = omega (arith, own-slot x h t, own-slots x h ts)
 
-two-bytes : (used : ℕ) (cs : SlotChildren) → used ≤ 65536 → AllBelow used cs → TwoBytes cs
+pub two-bytes : (used : ℕ) (cs : SlotChildren) → used ≤ 65536 → AllBelow used cs → TwoBytes cs
 two-bytes used cs l = all-weaker (λ x. x < used) (λ x. x < 65536) (λ x h. omega arith) (childList cs)
 
 module _ (kind : Kind) (law : Lawful kind) (shape : Shape) (page : ℕ → List ℕ) (used : ℕ) (fit : Fits kind shape)
@@ -108,12 +107,10 @@ module _ (kind : Kind) (law : Lawful kind) (shape : Shape) (page : ℕ → List 
       let counted : count cs ≡ count ts = count-map (λ t. t .slot) ts in
       let low : AllBelow used cs = slots-below used cs (λ x l. omega (arith, c x l, own-slots x h ts)) in
       let fresh = slots-pass used listed cs low (λ x. omega (arith, b x, own-slots x h ts)) in
-      let slots : map (λ t. t .slot) (childList ts) ≡ childList cs = sym (list-map (λ t. t .slot) ts) in
       let keys : sKeyList ts ≡ sKeyList cs = sym (keys-map (λ t. t .slot) ts) in
       let held : InnerNodeHeld kind shape page used fewest listed lo hi p cs n =
       record {
-        node =
-            st .0 .node ∙ ap (λ x. nodePage x (sKeyList ts) n) slots ∙ ap (λ x. nodePage (childList cs) x n) keys;
+        node = node-with-slots n ts (page p) (st .0 .node);
         few = so .1;
         at-least = omega (arith, so .2);
         at-most = omega (arith, so .2);

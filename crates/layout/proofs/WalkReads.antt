@@ -1,12 +1,12 @@
 -- The walk reads at most W pages of each node, and there are as many nodes as used slots.
 use mathlib.Core.Bool.{Bool}
 use mathlib.Core.List.{List}
-use Prim.Native.Nat.{ℕ, zero, suc, _+_, _*_, _≤_}
+use Prim.Native.Nat.{ℕ, zero, suc, _*_, _≤_}
 use native.Mathlib.Nat.{add-mul, mul-le-mul-right}
 use native.Mathlib.Omega.{arith}
 use lib.ListN.{length}
 use Rattle.records.specs.Kind.{Kind}
-use Rattle.shape.specs.Shape.{Shape, ceiling, slotPagesOf, leastChildrenOf}
+use Rattle.shape.specs.Shape.{Shape, slotPagesOf, leastChildrenOf}
 use Rattle.tree.specs.Entries.{Low, from, High, until, least, most}
 use Rattle.tree.specs.Children.{Children, one, more, sumOf, EachIn}
 use Rattle.tree.specs.Tree.{slotSum}

@@ -3,7 +3,7 @@ use Prim.Native.Nat.{ℕ, zero, suc, _+_, _*_, _≤_}
 use lib.ListN.{length}
 use Rattle.records.specs.Kind.{Kind}
 use Rattle.stores.specs.Store.{StoreState}
-use Rattle.shape.specs.Shape.{Shape, ceiling, slotPagesOf}
+use Rattle.shape.specs.Shape.{ceiling, slotPagesOf}
 use Rattle.tree.specs.Children.{sumOf}
 use Rattle.layout.specs.Holds.{ByteTree, Stored, Holds}
 

@@ -1,5 +1,7 @@
 // The laws of the inspection, each by the contract of a function. Nothing runs here.
 ghost use Rattle.layout.specs.Laws.{Everywhere, Accepts-what-is-held, Holds-one, Format-holds-the-empty};
+ghost use Rattle.layout.specs.Named.{Other-pages-are-free};
+ghost use Rattle.layout.specs.Descent.{S-keys-tell-the-child};
 ghost use Rattle.layout.specs.Search.{Search-by-first-keys, Compares-as-the-tree};
 ghost use Rattle.layout.specs.WalkReads.{Walk-reads-few};
 ghost use Rattle.layout.specs.Examples.{Inspected-examples};
@@ -25,10 +27,25 @@ pub fn format_holds_the_empty_index() -> u8
     0
 }
 
+// What leaf pages past the filled ones and slots that are not used hold does not matter.
+pub fn other_pages_are_free() -> u8
+    ensures { λ _. ⌜ Other-pages-are-free ⌝ }
+{
+    0
+}
+
 // The first keys on the head page tell the one leaf page that decides what a node's entries say of a key, and how many
 // of them are below it.
 pub fn first_keys_tell_the_page() -> u8
     ensures { λ _. ⌜ Search-by-first-keys ⌝ }
+{
+    0
+}
+
+// The s-keys on a node page tell the one child that decides what a node says of a key beside its own entries, and that
+// child stands on its pages too.
+pub fn s_keys_tell_the_child() -> u8
+    ensures { λ _. ⌜ Everywhere S-keys-tell-the-child ⌝ }
 {
     0
 }

@@ -1,6 +1,7 @@
 // The layout: which bytes stand on which page. It encodes page 0 and the pages of an empty slot and writes them through
 // any store, and names the ways in which a page can fail: the store refuses it, or it breaks a rule of the layout.
-// It uses the stores, the shape and the numbers of `records`.
+// Its definitions say what it means that pages hold an index and how a store is inspected; `laws` has what is proved of
+// both. It uses the stores, the shape, the tree and the kinds and numbers of `records`.
 ghost use mathlib.Core.Path.{_≡_};
 ghost use mathlib.Core.List.{List, [], _∷_, _++_};
 ghost use Prim.Native.Nat.{ℕ, _+_, _≤_};
