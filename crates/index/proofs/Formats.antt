@@ -22,7 +22,8 @@ use Rattle.index.specs.declared.faults.IndexFault.the-variants.{ShapeLimits, S
 use Rattle.index.specs.declared.Done.{Done}
 
 module _
-    (x y : Seen) (s : Shape) (r : Result Done Refusal) (kind : kinds.Lawful (x .kind)) (store : stores.Lawful (x .store))
+    (x y : Seen) (s : Shape) (r : Result Done Refusal) (kind : kinds.Lawful (x .kind))
+    (store : stores.Lawful (x .store))
   where
     abbrev Held : Done → Type 0
     Held done = Holds (x .kind) (y .store .pages) (record { shape = s; index = empty })

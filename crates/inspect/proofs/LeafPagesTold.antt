@@ -34,13 +34,13 @@ use Rattle.layout.specs.declared.faults.PageFault.{PageFault}
 use Rattle.inspect.specs.Bounds.{told, keyOn}
 
 -- a test that did not stop the inspection
-told-test :
+pub told-test :
     {A : Type 0} (b : Bool) (p : ℕ) (rule : Rule) (x : Checked A) → told (test b p rule x) ≡ Ok tt
     → (test b p rule x ≡ x) × (told x ≡ Ok tt)
 told-test true p rule x h = (refl, h)
 told-test false p rule x h = let z : _≡_ {A = ℕ} 0 1 = cc in absurd (omega arith)
 
-four-tests :
+pub four-tests :
     {A : Type 0} (a b c d : Bool) (p : ℕ) (q r s t : Rule) (x : Checked A)
     → told (test a p q (test b p r (test c p s (test d p t x)))) ≡ Ok tt
     → test a p q (test b p r (test c p s (test d p t x))) ≡ x

@@ -4,3 +4,6 @@ mod LeafPagesTold
 mod Looking
 mod DTreeTold
 mod NodeTold
+mod Page0Told
+mod WalkTold
+mod TreeTold

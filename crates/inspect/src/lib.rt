@@ -6,3 +6,6 @@ mod d_tree;
 mod keys;
 mod leaf_page;
 mod node_page;
+mod page_0;
+mod walk;
+mod whole_tree;

@@ -27,6 +27,7 @@ use stores::Page;
 const MOST_COUNTED: usize = 65_535;
 
 // The slots listed so far in a walk: whether each was, and how many.
+#[derive(Drop)]
 pub(crate) struct Listed {
     pub flags: [bool; 1024],
     pub count: usize,

@@ -31,9 +31,11 @@ use Rattle.layout.specs.Checked.{Checked, then, zeros}
 use Rattle.layout.specs.LeafPages.{orderedBelow}
 use Rattle.layout.specs.Nodes.{is}
 use Rattle.layout.specs.Walk.{walkTree}
-use Rattle.layout.specs.Inspection.{OpenFault, shapeLimits, atPage, notThere, headerOn, goodHeader, storedBy}
-use Rattle.layout.specs.Inspection.{otherKind, faultAtPage, inspectNodes, inspectBy, inspection}
+use Rattle.layout.specs.Inspection.{notThere, headerOn, goodHeader, storedBy}
+use Rattle.layout.specs.Inspection.{faultAtPage, inspectNodes, inspectBy, inspection}
 use Rattle.layout.specs.Laws.{Everywhere, Accepts-what-is-held, Holds-one}
+use Rattle.layout.specs.declared.faults.OpenFault.{OpenFault}
+use Rattle.layout.specs.declared.faults.OpenFault.the-variants.{OtherKind, ShapeLimits, Page}
 use Rattle.layout.specs.declared.faults.PageFault.the-variants.{Layout}
 use Rattle.layout.specs.declared.faults.Rule.the-variants.{HeaderNumbers}
 use Rattle.layout.proofs.Checked.{require-ok, then-ok}
@@ -71,24 +73,25 @@ record HeaderKept (h : Header) (page : List ℕ) : Type 0 where
 header-kept : (h : Header) (page : List ℕ) → goodHeader h page ≡ true → HeaderKept h page
 header-kept h page g =
     let a = and-parts _ _ g in
-    let b = and-parts _ _ (a .1) in
+    let b = and-parts _ _ (a .0) in
     let c = and-parts _ _ (b .1) in
-    let l = between-is 1 10 (h .levels) (a .0) in
-    let u = between-is 1 1024 (h .used) (b .0) in
+    let l = between-is 1 10 (h .levels) (b .0) in
+    let u = between-is 1 1024 (h .used) (c .0) in
     record {
       standing = l .0;
       shallow = l .1;
       some = u .0;
       few = u .1;
-      present = ltb-true (h .root) (h .used) (c .0);
-      rest = c .1;
+      present = ltb-true (h .root) (h .used) (c .1);
+      rest = a .1;
     }
 
 header-passes : (h : Header) (page : List ℕ) → HeaderKept h page → goodHeader h page ≡ true
 header-passes h page k =
+    and-from _ _ (
     and-from _ _ (between-from 1 10 (h .levels) (k .standing) (k .shallow)) (
-    and-from _ _ (between-from 1 1024 (h .used) (k .some) (k .few)) (
-    and-from _ _ (lt-ltb (h .root) (h .used) (k .present)) (k .rest)))
+    and-from _ _ (between-from 1 1024 (h .used) (k .some) (k .few)) (lt-ltb (h .root) (h .used) (k .present))))
+    (k .rest)
 
 module _ (kind : Kind) (law : Lawful kind) (store : StoreState) (whole : stores.Lawful store) where
   abbrev pages : List (List ℕ)
@@ -114,9 +117,9 @@ module _ (kind : Kind) (law : Lawful kind) (store : StoreState) (whole : stores.
       let walked = walkTree kind (h .shape) page (h .used) (h .levels - 1) (h .root) in
       let nodes : Result Stored OpenFault = then (faultAtPage walked) (λ t. Ok (storedBy h t)) in
       let t0 = require-ok (ltb 0 (length pages)) (notThere pages 0) _ s e in
-      let t4 = require-ok (eqb (getD (page 0) 0 0) (kind .number)) otherKind _ s (t0 .1) in
-      let t2 = require-ok (legal (recordWidth kind) (h .shape)) shapeLimits _ s (t4 .1) in
-      let t1 = require-ok (goodHeader h (page 0)) (atPage (Layout 0 HeaderNumbers)) _ s (t2 .1) in
+      let t4 = require-ok (eqb (getD (page 0) 0 0) (kind .number)) OtherKind _ s (t0 .1) in
+      let t2 = require-ok (legal (recordWidth kind) (h .shape)) ShapeLimits _ s (t4 .1) in
+      let t1 = require-ok (goodHeader h (page 0)) (Page (Layout 0 HeaderNumbers)) _ s (t2 .1) in
       let t5 = require-ok (ltb last (length pages)) (notThere pages last) nodes s (t1 .1) in
       let a = then-ok (faultAtPage walked) (λ t. Ok (storedBy h t)) s (t5 .1) in
       let t = a .0 in

@@ -13,7 +13,9 @@ use Rattle.tree.specs.Children.{one, more}
 use Rattle.tree.specs.Examples.{small, ticket, sold}
 use Rattle.layout.specs.Pages.{ByteEntry, headerPage, nodePage, headPage, leafPage}
 use Rattle.layout.specs.Holds.{ByteTree, Stored, headerFor}
-use Rattle.layout.specs.Inspection.{OpenFault, otherKind, shapeLimits, atPage, notThere, inspection}
+use Rattle.layout.specs.Inspection.{notThere, inspection}
+use Rattle.layout.specs.declared.faults.OpenFault.{OpenFault}
+use Rattle.layout.specs.declared.faults.OpenFault.the-variants.{OtherKind, ShapeLimits, Page}
 use Rattle.layout.specs.declared.faults.PageFault.the-variants.{Layout}
 use Rattle.layout.specs.declared.faults.Rule.{Rule}
 use Rattle.layout.specs.declared.faults.Rule.the-variants as rule
@@ -63,14 +65,14 @@ abbrev said : List (List ℕ) → Result Stored OpenFault
 said = inspection ticketKind
 
 abbrev broken : ℕ → Rule → Result Stored OpenFault
-broken page r = Err (atPage (Layout page r))
+broken page r = Err (Page (Layout page r))
 
 -- each rule, on the store of three nodes
 pub record One-byte-changed : Type 0 where
   pub whole : said pages ≡ Ok threeNodes
   pub no-pages : said [] ≡ Err (notThere [] 0)
-  pub other-kind : said (poke 0 0 2 pages) ≡ Err otherKind
-  pub fanout-of-2 : said (poke 0 1 2 pages) ≡ Err shapeLimits
+  pub other-kind : said (poke 0 0 2 pages) ≡ Err OtherKind
+  pub fanout-of-2 : said (poke 0 1 2 pages) ≡ Err ShapeLimits
   pub eleven-levels : said (poke 0 5 11 pages) ≡ broken 0 rule.HeaderNumbers
   pub four-slots : said (poke 0 7 4 pages) ≡ Err (notThere pages 20)
   pub one-child : said (poke 11 0 1 pages) ≡ broken 11 rule.ChildCount

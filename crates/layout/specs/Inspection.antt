@@ -15,19 +15,14 @@ use Rattle.layout.specs.Pages.{Header}
 use Rattle.layout.specs.Holds.{ByteTree, Stored}
 use Rattle.layout.specs.Checked.{Checked, require, then, zeros}
 use Rattle.layout.specs.Walk.{walkTree}
-use Rattle.layout.specs.declared.faults.PageFault.{PageFault}
+use Rattle.layout.specs.declared.faults.OpenFault.{OpenFault}
+use Rattle.layout.specs.declared.faults.OpenFault.the-variants.{OtherKind, ShapeLimits, Page}
 use Rattle.layout.specs.declared.faults.PageFault.the-variants.{Store, Layout}
 use Rattle.layout.specs.declared.faults.Rule.the-variants.{HeaderNumbers}
 
--- why a store is not opened: page 0 has the number of another kind, or a shape out of its limits; or a page failed
-pub data OpenFault : Type 0 where
-  otherKind : OpenFault
-  shapeLimits : OpenFault
-  atPage : PageFault → OpenFault
-
 -- the store has no page p
 abbrev pub notThere : List (List ℕ) → ℕ → OpenFault
-notThere pages p = atPage (Store (record { page = p; size = length pages }))
+notThere pages p = Page (Store (record { page = p; size = length pages }))
 
 -- the numbers of page 0
 abbrev pub headerOn : List ℕ → Header
@@ -39,10 +34,12 @@ headerOn page = record {
   changes = field 10 4 page;
 }
 
+abbrev pub inLimits : Header → Bool
+inLimits h = between 1 10 (h .levels) && (between 1 1024 (h .used) && ltb (h .root) (h .used))
+
 -- rule 1
 abbrev pub goodHeader : Header → List ℕ → Bool
-goodHeader h page =
-    between 1 10 (h .levels) && (between 1 1024 (h .used) && (ltb (h .root) (h .used) && zeros (drop 14 page)))
+goodHeader h page = inLimits h && zeros (drop 14 page)
 
 -- the index of a tree that was walked, by the numbers of page 0
 abbrev pub storedBy : (h : Header) → ByteTree (h .levels - 1) → Stored
@@ -53,7 +50,7 @@ storedBy h t = record {
 
 abbrev pub faultAtPage : {A : Type 0} → Checked A → Result A OpenFault
 faultAtPage (Ok a) = Ok a
-faultAtPage (Err fault) = Err (atPage fault)
+faultAtPage (Err fault) = Err (Page fault)
 
 -- the nodes, by the numbers of page 0
 unfoldable pub inspectNodes : Kind → (ℕ → List ℕ) → Header → Result Stored OpenFault
@@ -64,8 +61,8 @@ inspectNodes kind page h =
 unfoldable pub inspectBy : Kind → List (List ℕ) → Header → Result Stored OpenFault
 inspectBy kind pages h =
     let last = h .used * slotPagesOf (h .shape) in
-    require (legal (recordWidth kind) (h .shape)) shapeLimits
-    (require (goodHeader h (pageAt pages 0)) (atPage (Layout 0 HeaderNumbers))
+    require (legal (recordWidth kind) (h .shape)) ShapeLimits
+    (require (goodHeader h (pageAt pages 0)) (Page (Layout 0 HeaderNumbers))
     (require (ltb last (length pages)) (notThere pages last)
     (inspectNodes kind (pageAt pages) h)))
 
@@ -73,5 +70,5 @@ inspectBy kind pages h =
 unfoldable pub inspection : Kind → List (List ℕ) → Result Stored OpenFault
 inspection kind pages =
     require (ltb 0 (length pages)) (notThere pages 0)
-    (require (eqb (getD (pageAt pages 0) 0 0) (kind .number)) otherKind
+    (require (eqb (getD (pageAt pages 0) 0 0) (kind .number)) OtherKind
     (inspectBy kind pages (headerOn (pageAt pages 0))))

@@ -10,6 +10,7 @@ pub mod LeafPages
 pub mod Nodes
 pub mod Walk
 pub mod Inspection
+pub mod Made
 pub mod Laws
 pub mod WalkReads
 pub mod Search

@@ -1,6 +1,7 @@
 // How a page can fail.
 ghost use mathlib.Core.Path.{_≡_};
 ghost use Rattle.layout.specs.Faults.{ruleNumber};
+ghost use Rattle.layout.specs.declared.faults.OpenFault.the-variants.{Page};
 ghost use Rattle.layout.specs.declared.faults.PageFault.the-variants.{Store};
 use stores::StoreFault;
 
@@ -68,5 +69,24 @@ pub impl From<StoreFault> for PageFault as PageFromStore {
 
     fn from(e: StoreFault) -> PageFault {
         PageFault::Store(e)
+    }
+}
+
+// Why a store is not opened.
+#[derive(Clone, Copy)]
+pub enum OpenFault {
+    // page 0 has the number of another kind
+    OtherKind,
+    // page 0 has a shape out of its limits
+    ShapeLimits,
+    // a page that the store has not, or that breaks a rule
+    Page(PageFault),
+}
+
+pub impl From<PageFault> for OpenFault as OpenFromPage {
+    ghost converts = { λ e r. r ≡ Page e };
+
+    fn from(e: PageFault) -> OpenFault {
+        OpenFault::Page(e)
     }
 }

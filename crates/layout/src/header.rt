@@ -17,3 +17,12 @@ pub struct Header {
     ghost present: { root < used },
     ghost few: { used ≤ 1024 },
 }
+
+// The numbers of page 0 beside the kind's and the shape's, not tested yet.
+#[derive(Clone, Copy)]
+pub struct HeaderNumbers {
+    pub levels: u8,
+    pub used: u16,
+    pub root: u16,
+    pub changes: u32,
+}

@@ -12,6 +12,7 @@ ghost use Rattle.shape.specs.Made.{chosen};
 ghost use Rattle.layout.specs.Pages.{padded, headerPage};
 ghost use Rattle.layout.specs.Header.{headerFront};
 ghost use Rattle.layout.specs.Header.{headerOf, emptyHeader, emptied};
+ghost use Rattle.layout.specs.Made.{MadeHeader};
 use shape::Shape;
 use stores::Page;
 use stores::PageStore;
@@ -20,10 +21,13 @@ pub mod faults;
 pub mod header;
 pub mod laws;
 
+pub use faults::OpenFault;
+pub use faults::OpenFromPage;
 pub use faults::PageFault;
 pub use faults::PageFromStore;
 pub use faults::Rule;
 pub use header::Header;
+pub use header::HeaderNumbers;
 
 // Writes more bytes of a page that is zero from `at` on.
 fn append(page: &mut Page, at: usize, part: &[u8])
@@ -36,6 +40,31 @@ fn append(page: &mut Page, at: usize, part: &[u8])
 }
 
 impl Header {
+    // The header of these numbers; none where a limit is broken.
+    pub fn new(shape: Shape, numbers: HeaderNumbers) -> Option<Header>
+        ensures { λ r. ⌜ MadeHeader shape numbers r ⌝ }
+    {
+        let HeaderNumbers {
+            levels,
+            used,
+            root,
+            changes,
+        } = numbers;
+        if !((1 <= levels) & (levels <= 10)) {
+            return None;
+        }
+        if !((1 <= used) & (used <= 1024) & (root < used)) {
+            return None;
+        }
+        Some(Header {
+            shape,
+            levels,
+            used,
+            root,
+            changes,
+        })
+    }
+
     // The header of an index of one empty leaf node, in slot 0.
     pub fn empty(shape: Shape) -> Header
         ensures { λ r. ⌜ headerOf r ≡ emptyHeader (chosen shape) ⌝ }

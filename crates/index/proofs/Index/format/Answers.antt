@@ -14,6 +14,7 @@ returns g c =
       after = c .format-index .ensures .after;
       touches = c .format-index .ensures .touches;
       holds = format-holds (seen state model before) (seen state model after) (asked (c .args .numbers))
-          (c .format-index .result) (g .K·RecordKind·met .lawful (before .kind)) (g .S·PageStore .lawful (before .store))
+          (c .format-index .result) (g .K·RecordKind·met .lawful (before .kind))
+          (g .S·PageStore .lawful (before .store))
           (c .format-index .ensures .answer) (c .format-index .ensures .after);
     }
