@@ -101,7 +101,8 @@ pub record Worked-examples : Type 0 where
   -- a tie of the tallies, so the lowest entry moves to the left child
   pub tie-moves-left :
       changed (tickets seven ++ tickets (3 ∷ 4 ∷ 5 ∷ 16 ∷ 17 ∷ 18 ∷ 40 ∷ []))
-      ≡ moving 1 (twoLeaves (4 ∷ 5 ∷ 16 ∷ 17 ∷ 18 ∷ 40 ∷ []) (1 ∷ 2 ∷ 3 ∷ 8 ∷ []) 15 (15 ∷ 21 ∷ 32 ∷ 33 ∷ []) 14)
+      ≡ moving 1 (twoLeaves (4 ∷ 5 ∷ 16 ∷ 17 ∷ 18 ∷ 40 ∷ []) (1 ∷ 2 ∷ 3 ∷ 8 ∷ []) 15
+      (15 ∷ 21 ∷ 32 ∷ 33 ∷ []) 14)
   -- the tombstone of 1 moves to the left leaf node and goes together with the entry of 1
   pub tombstone-goes :
       changed (tickets seven ++ removing 1 ∷ tickets (3 ∷ 4 ∷ 5 ∷ 16 ∷ 17 ∷ 40 ∷ []))
