@@ -1,6 +1,8 @@
 // Bench: how fast open and find are on a store of 1,000 slots of tickets, beside a binary search in a sorted array of
 // the same records. Without arguments it says what it would do; with `run` it does it and prints the results. It is run
 // by hand: it is proved safe and to end, and says nothing of a time. It uses `builder`, the index and the plain store.
+#![tactic(auto)]
+
 mod array;
 mod measure;
 

@@ -3,6 +3,8 @@
 // on them. A wish says how large the tree is to be; the plan of it has every key and value as a number, and so it can
 // be asked what a find must answer, and its image has the pages. Nothing here panics: what does not fit is an error. It
 // uses nothing but the language.
+#![tactic(auto)]
+
 mod faults;
 mod image;
 pub mod kinds;

@@ -1,5 +1,7 @@
 // Worked examples as tests: tickets, pools, shapes, and a store formatted and closed. They stand in a crate of their
 // own, since a crate with tests is proved twice. It may use every library.
+#![tactic(auto)]
+
 #[cfg(test)]
 mod index_tests;
 #[cfg(test)]

@@ -1,5 +1,5 @@
 -- An accepted format leaves pages that hold the empty index, since its tests are what that law asks for.
-use Rattle.std.proofs.Common.{◌≡◌, ℕ, ◌+◌, ◌≤◌, Bool, true, false, cond, leb, length, IfOk, Some, None, Result, sym, refl, ap, subst}
+use Rattle.std.proofs.Common.{◌≡◌, ◌+◌, Bool, true, false, cond, leb, length, IfOk, Some, None, Result, sym, refl, subst}
 use Rattle.std.proofs.lemmas.Bool.{leb-true}
 use Rattle.records.specs.Kind as kinds
 use Rattle.records.specs.Kind.{record_width}

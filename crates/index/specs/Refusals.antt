@@ -1,6 +1,5 @@
 -- A refusal is five numbers: its number, its layer (1 index, 2 page, 3 store), a page, a detail, and the touches.
 use Rattle.std.specs.Prelude.{ℕ}
-use Rattle.stores.specs.declared.StoreFault.{StoreFault}
 use Rattle.layout.specs.Faults.{rule_number}
 use Rattle.layout.specs.declared.faults.OpenFault.{OpenFault}
 use Rattle.layout.specs.declared.faults.OpenFault.TheVariants as opening

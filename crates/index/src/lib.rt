@@ -1,6 +1,8 @@
 // The index: one tree of records on the pages of a store, for any store and any kind. It owns both, so nobody else
 // reaches the pages while it is open. Each call promises, in either state, which answer or refusal comes, what stands
 // on the pages and in the state after it, and the pages it touched. It uses all the layers below.
+#![tactic(auto)]
+
 ghost use Rattle.std.specs.Prelude.{◌≡◌, ℕ, ◌<◌, ◌≤◌, length, drop, Result, MatchResult, OnOk};
 ghost use Rattle.stores.specs.Store.{page_at, WasRead, NotThere};
 ghost use Rattle.shape.specs.Made.{asked};
@@ -180,7 +182,8 @@ impl<S: PageStore, K: RecordKind> Index<S, K> {
     fn touches_since(&self, start: u64) -> u64
         ensures { result ≡ growth start (S.PageStore.state self.now.store).count }
     {
-        self.store.count().wrapping_sub(start)
+        let count = self.store.count();
+        count.wrapping_sub(start)
     }
 
     // The tests of format, and then its writes.
@@ -211,7 +214,7 @@ impl<S: PageStore, K: RecordKind> Index<S, K> {
     {
         let start = self.store.count();
         let written = self.write_formatted(numbers);
-        let touches = self.touches_since(start);
+        let touches = self.store.count().wrapping_sub(start);
         match written {
             Ok(()) => Ok(Done { touches }),
             Err(fault) => Err(Refusal { fault, touches }),

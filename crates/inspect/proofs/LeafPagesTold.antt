@@ -1,6 +1,6 @@
 -- The inspection of leaf pages, one before the next: it stops at the first page that is broken, and otherwise goes on
 -- from the last key of the page.
-use Rattle.std.proofs.Common.{◌≡◌, ℕ, zero, suc, ◌+◌, ◌-◌, ◌*◌, ◌/◌, ◌<◌, ◌≤◌, min, Bool, true, false, ◌&&◌, eqb, List, [], ◌∷◌, ◌++◌, map, length, get_or, take, drop, Ok, Err, Result, sym, refl, ap, ◌∙◌, mul_le_mul_right, suc-mul, zero-mul, arith}
+use Rattle.std.proofs.Common.{◌≡◌, ℕ, zero, suc, ◌+◌, ◌-◌, ◌*◌, ◌/◌, ◌≤◌, min, Bool, true, false, ◌&&◌, eqb, List, ◌++◌, map, length, get_or, take, drop, Ok, Err, Result, sym, refl, ap, ◌∙◌, suc-mul, zero-mul, arith}
 use Rattle.std.proofs.lemmas.List.{drop-drop, take_rest}
 use Rattle.records.specs.Kind.{Kind, record_width}
 use Rattle.tree.specs.Entries.{Low, past, High}
@@ -147,7 +147,8 @@ rest_part kind w firsts a = take_rest firsts w ∙ ap (λ n. drop n firsts) a
 pub pages_same :
     (kind : Kind) (per_page : ℕ) (page page_too : ℕ → List ℕ) (leaf : Bool) (hi : High (List ℕ)) (n s s_too : ℕ)
     (lo : Low (List ℕ)) (firsts firsts_too : List ℕ) (p : ℕ) → page ≡ page_too → s ≡ s_too → firsts ≡ firsts_too
-    → pages_told kind per_page page leaf hi n s lo firsts p ≡ pages_told kind per_page page_too leaf hi n s_too lo firsts_too p
+    → pages_told kind per_page page leaf hi n s lo firsts p
+    ≡ pages_told kind per_page page_too leaf hi n s_too lo firsts_too p
 pages_same kind per_page page page_too leaf hi n s s_too lo firsts firsts_too p a b c =
     ap (λ x. pages_told kind per_page x leaf hi n s lo firsts p) a
     ∙ ap (λ x. pages_told kind per_page page_too leaf hi n x lo firsts p) b

@@ -1,8 +1,8 @@
 -- The inspection of a node page, child by child: each slot is tested and listed, each s-key tested, before the next.
-use Rattle.std.proofs.Common.{◌≡◌, ℕ, zero, suc, ◌+◌, ◌-◌, ◌*◌, ◌<◌, ◌≤◌, min, Bool, true, false, cond, ◌&&◌, eqb, ltb, leb, List, [], ◌∷◌, length, get_or, take, drop, set, Ok, Err, Result, sym, refl, ap, ◌∙◌, subst, ⊎_elim, mul_le_mul, arith}
-use Rattle.std.proofs.lemmas.List.{drop_more, drop-drop, take_rest, get_or-set_same, get_or-set_other}
+use Rattle.std.proofs.Common.{◌≡◌, ℕ, zero, suc, ◌+◌, ◌-◌, ◌*◌, ◌<◌, ◌≤◌, min, Bool, true, false, ◌&&◌, eqb, ltb, leb, List, ◌∷◌, length, get_or, take, drop, set, Ok, Err, Result, sym, ap, ◌∙◌, subst, ⊎_elim, mul-le-mul, arith}
+use Rattle.std.proofs.lemmas.List.{drop-drop, take_rest, get_or-set_same, get_or-set_other}
 use Rattle.std.proofs.lemmas.Bool.{cases_eq, eq-eqb, ne_eqb, lt-ltb, le-ltb, lt-leb, le-leb, ltb-true, ltb-false}
-use Rattle.records.specs.Bytes.{word, field}
+use Rattle.records.specs.Bytes.{word}
 use Rattle.records.specs.Kind.{Kind}
 use Rattle.tree.specs.Entries.{Low, past, High}
 use Rattle.layout.specs.LeafPages.{good_key}
@@ -243,4 +243,4 @@ zero_part page keys c w x e is =
 
 -- at most 8 children and keys of at most 24 bytes fit on a page
 pub keys_room : (c w : ℕ) → 1 ≤ c → c ≤ 8 → w ≤ 24 → 3 + 2 * c + (c - 1) * w ≤ 512
-keys_room c w some most wide = omega (arith, mul_le_mul {n₁ = c - 1} {n₂ = 7} (omega arith) wide)
+keys_room c w some most wide = omega (arith, mul-le-mul {n₁ = c - 1} {n₂ = 7} (omega arith) wide)

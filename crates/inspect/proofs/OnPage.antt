@@ -1,24 +1,13 @@
 -- Loops over the entries of a leaf page: what is left of the entries gives what all of them give.
-use Rattle.std.proofs.Common.{◌≡◌, ℕ, zero, suc, ◌+◌, ◌-◌, ◌*◌, ◌/◌, ◌%◌, ◌^◌, ◌<◌, ◌≤◌, Bool, true, false, cond, ◌&&◌, eqb, ltb, leb, List, [], ◌∷◌, ◌++◌, length, get_or, take, drop, sym, refl, ap, ◌∙◌, subst, inl, inr, mul_le_mul_right, suc-mul, pow-suc, zero-mul, div-one, arith, pow_mono}
+use Rattle.std.proofs.Common.{◌≡◌, ℕ, suc, ◌+◌, ◌-◌, ◌*◌, ◌/◌, ◌%◌, ◌^◌, ◌<◌, ◌≤◌, Bool, true, false, ◌&&◌, eqb, ltb, leb, List, ◌∷◌, length, get_or, take, drop, sym, ap, ◌∙◌, inl, inr, mul-le-mul_right, suc-mul, pow-suc, arith, pow_mono}
 use lib.Count.{count_leading_zeros, leading_length}
 use Rattle.std.specs.Str.{bytes_eq}
-use Rattle.std.proofs.lemmas.Nat.{shr-shr}
 use Rattle.std.proofs.lemmas.List.{drop-drop, at_drop_more, at_drop_all, length-take, length-drop, take_rest}
-use Rattle.std.proofs.lemmas.Bool.{ne_eqb, eq-eqb, true≢false, false≢true, cases_lt, lt-leb, le-leb, le-ltb, lt-ltb}
-use Rattle.records.specs.Kind.{Kind, record_width}
+use Rattle.std.proofs.lemmas.Bool.{ne_eqb, eq-eqb, cases_lt, lt-leb, le-leb, le-ltb, lt-ltb}
+use Rattle.records.specs.Kind.{Kind}
 use Rattle.tree.specs.Entries.{Low, High, past}
 use Rattle.layout.specs.Checked.{zeros}
-use Rattle.layout.specs.LeafPages.{
-  RawEntry,
-  raw_entries,
-  raw_entries_on,
-  marks_on,
-  good_key,
-  good_keys,
-  good_first,
-  good_value,
-  good_values,
-}
+use Rattle.layout.specs.LeafPages.{raw_entries, raw_entries_on, marks_on, good_key, good_keys, good_first, good_value, good_values}
 use Rattle.layout.proofs.RawEntries.{raw_at, raw_drop, length-raw_entries}
 use Rattle.inspect.specs.Bounds.{key_on, value_on}
 
@@ -55,7 +44,7 @@ part_after w v W i x y at u page a b c d =
     rw (m, e, drop-drop (i * W) 9 page, drop-drop w (9 + i * W) page)
 
 pub room_at : (i t W : ℕ) → i < t → 9 + t * W ≤ 512 → 9 + (i * W + W) ≤ 512
-room_at i t W h r = omega (arith, mul_le_mul_right {m = suc i} {n = t} W h, suc-mul i W)
+room_at i t W h r = omega (arith, mul-le-mul_right {m = suc i} {n = t} W h, suc-mul i W)
 
 and_true : (a d : Bool) → a ≡ true → (a && d) ≡ d
 and_true a d h = rw h

@@ -1,7 +1,7 @@
 -- A whole store: once page 0 was read, its inspection is that of page 0, then the last page of the used slots, then the
 -- tree. The code ends where one of these fails, or where all passed; then it touched two pages and those of the walk,
 -- which are at most W for each used slot, since there are no more nodes than used slots.
-use Rattle.std.proofs.Common.{◌≡◌, ℕ, ◌+◌, ◌-◌, ◌*◌, ◌<◌, ◌≤◌, Bool, true, false, eqb, ltb, List, length, get_or, Ok, Err, Result, sym, refl, ap, ◌∙◌, subst, mul_le_mul_right, mul_comm, arith}
+use Rattle.std.proofs.Common.{◌≡◌, ℕ, ◌+◌, ◌-◌, ◌*◌, ◌≤◌, Bool, true, false, eqb, ltb, List, length, get_or, Ok, Err, Result, sym, refl, ap, ◌∙◌, subst, mul-le-mul_right, mul_comm, arith}
 use Rattle.std.proofs.lemmas.Bool.{lt-ltb, le-ltb}
 use Rattle.records.specs.Kind as kinds
 use Rattle.records.specs.Kind.{Kind, record_width}
@@ -14,7 +14,7 @@ use Rattle.layout.specs.Checked.{Checked, require, then}
 use Rattle.layout.specs.Holds.{ByteTree, Stored, header_for}
 use Rattle.layout.specs.Walk.{walk_tree}
 use Rattle.layout.specs.Inspection.{not_there, header_on, good_header, stored_by}
-use Rattle.layout.specs.Inspection.{fault_at_page, inspect_nodes, inspect_by, inspection}
+use Rattle.layout.specs.Inspection.{inspect_nodes, inspect_by, inspection}
 use Rattle.layout.specs.declared.faults.OpenFault.{OpenFault}
 use Rattle.layout.specs.declared.faults.OpenFault.TheVariants.{OtherKind, ShapeLimits, Page}
 use Rattle.layout.specs.declared.faults.PageFault.{PageFault}
@@ -193,7 +193,7 @@ module _ (kind : Kind) (law : kinds.Lawful kind) (a : StoreState) (whole : store
             let held = (accepts_what_is_held kind law a whole s).0 i in
             let few : nodes ≤ h.used = nodes_used s.index held.sound.slots in
             let most : W * nodes ≤ last_page h =
-            omega (arith, mul_comm W nodes, mul_le_mul_right {m = nodes} {n = h.used} W few) in
+            omega (arith, mul_comm W nodes, mul-le-mul_right {m = nodes} {n = h.used} W few) in
             let first = looked_once a m 1 w.then (omega arith) in
             let second = looked_once m n 1 v.then (omega arith) in
             let reads = looked_then a m n 1 1 2 first second (omega arith) in

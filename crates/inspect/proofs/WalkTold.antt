@@ -1,5 +1,5 @@
 -- The walk over the nodes, step by step: what the parts of a node told, and what the walk therefore ends with.
-use Rattle.std.proofs.Common.{◌≡◌, ℕ, zero, suc, ◌+◌, ◌-◌, ◌*◌, ◌/◌, ◌<◌, ◌≤◌, true, false, ◌&&◌, leb, List, length, take, drop, Ok, Err, Result, sym, refl, ap, ◌∙◌, subst, mul_le_mul_right, suc-mul, le-div_iff_mul-le, mul-add, div-mul-le_self, arith}
+use Rattle.std.proofs.Common.{◌≡◌, ℕ, zero, suc, ◌+◌, ◌-◌, ◌*◌, ◌<◌, ◌≤◌, true, false, ◌&&◌, leb, List, length, take, drop, Ok, Err, Result, sym, refl, ap, ◌∙◌, subst, mul-le-mul_right, suc-mul, mul-add, arith}
 use Rattle.std.proofs.lemmas.List.{length-drop, take_rest}
 use Rattle.records.specs.Bytes.{word}
 use Rattle.records.specs.Kind.{Kind}
@@ -40,7 +40,7 @@ use Rattle.stores.proofs.Looking.{looked_once, looked_then}
 -- the pages of a used slot are there
 pub slot_fits : (slot used W pages : ℕ) → slot < used → used * W < pages → 1 + slot * W + W ≤ pages
 slot_fits slot used W pages lt h =
-    omega (arith, mul_le_mul_right {m = suc slot} {n = used} W (omega arith), suc-mul slot W)
+    omega (arith, mul-le-mul_right {m = suc slot} {n = used} W (omega arith), suc-mul slot W)
 
 pub looked_more : (a b : StoreState) (m n : ℕ) → Looked a m b → m ≤ n → Looked a n b
 looked_more a b m n h le = record {

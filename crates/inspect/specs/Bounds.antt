@@ -1,5 +1,5 @@
 -- The ends of a range of keys as the code holds them, and what an inspection tells.
-use Rattle.std.specs.Prelude.{◌≡◌, ℕ, ◌+◌, ◌*◌, List, length, take, drop, Ok, Err, Result}
+use Rattle.std.specs.Prelude.{◌≡◌, ℕ, ◌*◌, List, length, take, drop, Ok, Err, Result}
 use Rattle.records.specs.Kind.{Kind, record_width}
 use Rattle.tree.specs.Entries as tree
 use Rattle.inspect.specs.declared.bounds.Low.{Low}

@@ -22,8 +22,8 @@ const WIDEST_KEY: usize = 24;
 // The key of the last of t entries, at the start of an array.
 fn last_key<K: RecordKind>(kind: &K, page: &[u8; 512], t: usize) -> [u8; 24]
     requires some { 1 ≤ t }
-    requires room { 9 + t * record_width (model kind.now) ≤ 512 }
-    ensures { take (model kind.now).key_width result ≡ key_on (model kind.now)
+    requires room { 9 + t * record_width (K.model kind.now) ≤ 512 }
+    ensures { take (K.model kind.now).key_width result ≡ key_on (K.model kind.now)
         page.now (t - 1) }
 {
     let mut last = [0; WIDEST_KEY];
@@ -49,16 +49,16 @@ fn inspect_leaf_pages<S: PageStore, K: RecordKind>(
 ) -> Result<(), PageFault>
     requires some { 1 ≤ per_page }
     requires few { per_page ≤ 64 }
-    requires fits { per_page * record_width (model kind.now) ≤ 503 }
-    requires high { HighLong (model kind.now).key_width high }
-    requires low { LowLong (model kind.now).key_width low }
+    requires fits { per_page * record_width (K.model kind.now) ≤ 503 }
+    requires high { HighLong (K.model kind.now).key_width high }
+    requires low { LowLong (K.model kind.now).key_width low }
     requires entries { n * per_page < s + per_page }
-    requires keys { n * (model kind.now).key_width ≤ length firsts.now }
-    requires pages { p + n ≤ length (state store.old).pages }
+    requires keys { n * (K.model kind.now).key_width ≤ length firsts.now }
+    requires pages { p + n ≤ length (S.state store.old).pages }
     ensures answer { result ≡ told
-        (inspect_leaf_pages (model kind.now) per_page (page_at (state store.old).pages)
+        (inspect_leaf_pages (K.model kind.now) per_page (page_at (S.state store.old).pages)
         leaf (high_of high.entry) n s (low_of low.entry) firsts.now p) }
-    ensures looked { Looked (state store.old) n (state store.new) }
+    ensures looked { Looked (S.state store.old) n (S.state store.new) }
 {
     if n == 0 {
         return Ok(());
@@ -88,7 +88,7 @@ fn inspect_leaf_pages<S: PageStore, K: RecordKind>(
 fn is_good_head<K: RecordKind>(kind: &K, head: &[u8; 512], filled: usize) -> bool
     requires { filled ≤ 16 }
     ensures { result ≡ ((slice_index head.now 0 == filled)
-        && zeros (drop (1 + filled * (model kind.now).key_width) head.now)) }
+        && zeros (drop (1 + filled * (K.model kind.now).key_width) head.now)) }
 {
     let bytes: &[u8] = head;
     (head[0] as usize == filled) & all_zero(&bytes[1 + filled * kind.key_width()..])
@@ -107,16 +107,16 @@ pub(crate) fn inspect_d_tree<S: PageStore, K: RecordKind>(
 ) -> Result<(), PageFault>
     requires some { 1 ≤ per_page }
     requires few { per_page ≤ 64 }
-    requires fits { per_page * record_width (model kind.now) ≤ 503 }
+    requires fits { per_page * record_width (K.model kind.now) ≤ 503 }
     requires entries { (s ≤ 256) × (ceiling s per_page ≤ 16) }
-    requires high { HighLong (model kind.now).key_width high }
-    requires low { LowLong (model kind.now).key_width low }
-    requires pages { p + 1 + ceiling s per_page ≤ length (state store.old).pages }
+    requires high { HighLong (K.model kind.now).key_width high }
+    requires low { LowLong (K.model kind.now).key_width low }
+    requires pages { p + 1 + ceiling s per_page ≤ length (S.state store.old).pages }
     ensures answer { result ≡ told
-        (inspect_d_tree (model kind.now) per_page (page_at (state store.old).pages)
+        (inspect_d_tree (K.model kind.now) per_page (page_at (S.state store.old).pages)
         leaf (high_of high.entry) s (low_of low.entry) p) }
-    ensures looked { Looked (state store.old) (1 + ceiling s per_page)
-        (state store.new) }
+    ensures looked { Looked (S.state store.old) (1 + ceiling s per_page)
+        (S.state store.new) }
 {
     let filled = (s + (per_page - 1)) / per_page;
     let mut head = [0; 512];

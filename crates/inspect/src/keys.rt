@@ -20,9 +20,9 @@ pub(crate) fn all_zero(bytes: &[u8]) -> bool
 }
 
 fn is_below<K: RecordKind>(kind: &K, a: &[u8], b: &[u8]) -> bool
-    requires left { length a.now ≡ (model kind.now).key_width }
-    requires right { length b.now ≡ (model kind.now).key_width }
-    ensures { result ≡ ordered_below (model kind.now) a.now b.now }
+    requires left { length a.now ≡ (K.model kind.now).key_width }
+    requires right { length b.now ≡ (K.model kind.now).key_width }
+    ensures { result ≡ ordered_below (K.model kind.now) a.now b.now }
 {
     match kind.compare(a, b) {
         Ordering::Less => true,
@@ -31,9 +31,9 @@ fn is_below<K: RecordKind>(kind: &K, a: &[u8], b: &[u8]) -> bool
 }
 
 fn is_above_low<K: RecordKind>(kind: &K, low: Low<'_>, key: &[u8]) -> bool
-    requires low { LowLong (model kind.now).key_width low }
-    requires key { length key.now ≡ (model kind.now).key_width }
-    ensures { result ≡ above_low (model kind.now) (low_of low.entry) key.now }
+    requires low { LowLong (K.model kind.now).key_width low }
+    requires key { length key.now ≡ (K.model kind.now).key_width }
+    ensures { result ≡ above_low (K.model kind.now) (low_of low.entry) key.now }
 {
     match low {
         Low::Least => true,
@@ -43,9 +43,9 @@ fn is_above_low<K: RecordKind>(kind: &K, low: Low<'_>, key: &[u8]) -> bool
 }
 
 fn is_below_high<K: RecordKind>(kind: &K, high: High<'_>, key: &[u8]) -> bool
-    requires high { HighLong (model kind.now).key_width high }
-    requires key { length key.now ≡ (model kind.now).key_width }
-    ensures { result ≡ below_high (model kind.now) (high_of high.entry) key.now }
+    requires high { HighLong (K.model kind.now).key_width high }
+    requires key { length key.now ≡ (K.model kind.now).key_width }
+    ensures { result ≡ below_high (K.model kind.now) (high_of high.entry) key.now }
 {
     match high {
         High::Most => true,
@@ -55,10 +55,10 @@ fn is_below_high<K: RecordKind>(kind: &K, high: High<'_>, key: &[u8]) -> bool
 
 // Whether a key is valid and in the range.
 pub(crate) fn is_good_key<K: RecordKind>(kind: &K, low: Low<'_>, high: High<'_>, key: &[u8]) -> bool
-    requires low { LowLong (model kind.now).key_width low }
-    requires high { HighLong (model kind.now).key_width high }
-    requires key { length key.now ≡ (model kind.now).key_width }
-    ensures { result ≡ good_key (model kind.now) (low_of low.entry) (high_of high.entry)
+    requires low { LowLong (K.model kind.now).key_width low }
+    requires high { HighLong (K.model kind.now).key_width high }
+    requires key { length key.now ≡ (K.model kind.now).key_width }
+    ensures { result ≡ good_key (K.model kind.now) (low_of low.entry) (high_of high.entry)
         key.now }
 {
     kind.valid_key(key) & (is_above_low(kind, low, key) & is_below_high(kind, high, key))

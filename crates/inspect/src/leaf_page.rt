@@ -17,9 +17,9 @@ const ENTRIES_AT: usize = 9;
 
 // The key of entry i.
 pub(crate) fn key_at<'a, K: RecordKind>(kind: &K, page: &'a Page, i: usize) -> &'a [u8]
-    requires { 9 + (i * record_width (model kind.now) + record_width (model kind.now)) ≤ 512 }
-    ensures key { result.now ≡ key_on (model kind.now) page.now i }
-    ensures long { length result.now ≡ (model kind.now).key_width }
+    requires { 9 + (i * record_width (K.model kind.now) + record_width (K.model kind.now)) ≤ 512 }
+    ensures key { result.now ≡ key_on (K.model kind.now) page.now i }
+    ensures long { length result.now ≡ (K.model kind.now).key_width }
 {
     let bytes: &[u8] = page;
     let at = ENTRIES_AT + i * kind.record_width();
@@ -27,9 +27,9 @@ pub(crate) fn key_at<'a, K: RecordKind>(kind: &K, page: &'a Page, i: usize) -> &
 }
 
 // The value bytes of entry i.
-pub(crate) fn value_at<'a, K: RecordKind>(kind: &K, page: &'a Page, i: usize) -> &'a [u8]
-    requires { 9 + (i * record_width (model kind.now) + record_width (model kind.now)) ≤ 512 }
-    ensures { result.now ≡ value_on (model kind.now) page.now i }
+fn value_at<'a, K: RecordKind>(kind: &K, page: &'a Page, i: usize) -> &'a [u8]
+    requires { 9 + (i * record_width (K.model kind.now) + record_width (K.model kind.now)) ≤ 512 }
+    ensures { result.now ≡ value_on (K.model kind.now) page.now i }
 {
     let bytes: &[u8] = page;
     let at = ENTRIES_AT + i * kind.record_width() + kind.key_width();
@@ -44,11 +44,11 @@ fn are_good_keys<'a, K: RecordKind>(
     low: Low<'a>,
     high: High<'_>,
 ) -> bool
-    requires low { LowLong (model kind.now).key_width low }
-    requires high { HighLong (model kind.now).key_width high }
-    requires room { 9 + t * record_width (model kind.now) ≤ 512 }
-    ensures { result ≡ good_keys (model kind.now) (low_of low.entry) (high_of high.entry)
-        (raw_entries_on (model kind.now) t page.now) }
+    requires low { LowLong (K.model kind.now).key_width low }
+    requires high { HighLong (K.model kind.now).key_width high }
+    requires room { 9 + t * record_width (K.model kind.now) ≤ 512 }
+    ensures { result ≡ good_keys (K.model kind.now) (low_of low.entry) (high_of high.entry)
+        (raw_entries_on (K.model kind.now) t page.now) }
 {
     let mut bound = low;
     for i in 0..t {
@@ -74,7 +74,7 @@ fn are_good_marks(leaf: bool, t: u32, marks: u64) -> bool
 }
 
 fn is_good_value<K: RecordKind>(kind: &K, marked: bool, value: &[u8]) -> bool
-    ensures { result ≡ good_value (model kind.now) marked value.now }
+    ensures { result ≡ good_value (K.model kind.now) marked value.now }
 {
     if marked {
         all_zero(value)
@@ -86,9 +86,9 @@ fn is_good_value<K: RecordKind>(kind: &K, marked: bool, value: &[u8]) -> bool
 // Whether live values are valid and those of tombstones zero.
 fn are_good_values<K: RecordKind>(kind: &K, page: &Page, t: usize) -> bool
     requires few { t ≤ 64 }
-    requires room { 9 + t * record_width (model kind.now) ≤ 512 }
-    ensures { result ≡ good_values (model kind.now)
-        (raw_entries_on (model kind.now) t page.now) }
+    requires room { 9 + t * record_width (K.model kind.now) ≤ 512 }
+    ensures { result ≡ good_values (K.model kind.now)
+        (raw_entries_on (K.model kind.now) t page.now) }
 {
     let marks = mark_word(page);
     for i in 0..t {
@@ -102,9 +102,9 @@ fn are_good_values<K: RecordKind>(kind: &K, page: &Page, t: usize) -> bool
 
 // Whether the first key is the one that the head page names.
 fn is_good_first<K: RecordKind>(kind: &K, page: &Page, t: usize, first: &[u8]) -> bool
-    requires { 9 + t * record_width (model kind.now) ≤ 512 }
+    requires { 9 + t * record_width (K.model kind.now) ≤ 512 }
     ensures { result ≡ good_first first.now
-        (raw_entries_on (model kind.now) t page.now) }
+        (raw_entries_on (K.model kind.now) t page.now) }
 {
     if t == 0 {
         return true;
@@ -113,8 +113,8 @@ fn is_good_first<K: RecordKind>(kind: &K, page: &Page, t: usize, first: &[u8]) -
 }
 
 fn is_rest_zero<K: RecordKind>(kind: &K, page: &Page, t: usize) -> bool
-    requires { 9 + t * record_width (model kind.now) ≤ 512 }
-    ensures { result ≡ zeros (drop (9 + t * record_width (model kind.now)) page.now) }
+    requires { 9 + t * record_width (K.model kind.now) ≤ 512 }
+    ensures { result ≡ zeros (drop (9 + t * record_width (K.model kind.now)) page.now) }
 {
     let bytes: &[u8] = page;
     all_zero(&bytes[ENTRIES_AT + t * kind.record_width()..])
@@ -133,10 +133,10 @@ pub(crate) fn inspect_leaf_page<'a, K: RecordKind>(
     page: &'a Page,
 ) -> Result<(), PageFault>
     requires few { t ≤ 64 }
-    requires low { LowLong (model kind.now).key_width low }
-    requires high { HighLong (model kind.now).key_width high }
-    requires room { 9 + t * record_width (model kind.now) ≤ 512 }
-    ensures { result ≡ told (inspect_leaf_page (model kind.now) leaf t (low_of low.entry)
+    requires low { LowLong (K.model kind.now).key_width low }
+    requires high { HighLong (K.model kind.now).key_width high }
+    requires room { 9 + t * record_width (K.model kind.now) ≤ 512 }
+    ensures { result ≡ told (inspect_leaf_page (K.model kind.now) leaf t (low_of low.entry)
         (high_of high.entry)
         first.now p page.now) }
 {

@@ -60,12 +60,12 @@ pub(crate) fn are_good_s_keys<K: RecordKind>(
     n: usize,
     keys: &[u8],
 ) -> bool
-    requires low { LowLong (model kind.now).key_width low }
-    requires high { HighLong (model kind.now).key_width high }
-    requires long { n * (model kind.now).key_width ≤ length keys.now }
-    ensures { (slots : List ℕ) → result ≡ good_s_keys (model kind.now) (low_of low.entry)
+    requires low { LowLong (K.model kind.now).key_width low }
+    requires high { HighLong (K.model kind.now).key_width high }
+    requires long { n * (K.model kind.now).key_width ≤ length keys.now }
+    ensures { (slots : List ℕ) → result ≡ good_s_keys (K.model kind.now) (low_of low.entry)
         (high_of high.entry)
-        (children_from (model kind.now).key_width n slots keys.now) }
+        (children_from (K.model kind.now).key_width n slots keys.now) }
 {
     if n == 0 {
         return true;
@@ -118,16 +118,16 @@ pub(crate) fn inspect_inner_node<K: RecordKind>(
 ) -> Result<(), PageFault>
     requires some { 1 ≤ fewest }
     requires few { used ≤ 1024 }
-    requires low { LowLong (model kind.now).key_width low }
-    requires high { HighLong (model kind.now).key_width high }
-    ensures good { result ≡ Result.Ok tt → GoodInner (model kind.now).key_width (chosen shape) used fewest
+    requires low { LowLong (K.model kind.now).key_width low }
+    requires high { HighLong (K.model kind.now).key_width high }
+    ensures good { result ≡ Result.Ok tt → GoodInner (K.model kind.now).key_width (chosen shape) used fewest
         page.now }
     ensures answer { (pages : ℕ → List ℕ) (before : List ℕ) → pages p ≡ page.now → Lists
         listed.old before
-        → (result ≡ told (inspect_inner_node (model kind.now) (chosen shape) pages used fewest before
+        → (result ≡ told (inspect_inner_node (K.model kind.now) (chosen shape) pages used fewest before
         (low_of low.entry) (high_of high.entry) p))
         × (result ≡ Result.Ok tt → Lists listed.new
-        (listed_after before (children_on (model kind.now).key_width page.now))) }
+        (listed_after before (children_on (K.model kind.now).key_width page.now))) }
 {
     let parts = node_parts(page);
     let c = parts.children;

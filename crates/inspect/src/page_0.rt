@@ -71,8 +71,8 @@ pub(crate) fn header_parts<'a>(page: &'a Page) -> HeaderParts<'a>
 
 // Inspects page 0, and tells its numbers.
 pub(crate) fn inspect_header<K: RecordKind>(kind: &K, page: &Page) -> Result<Header, OpenFault>
-    ensures width { IfOk result (λ h. h.shape.record_width ≡ record_width (model kind.now)) }
-    ensures answer { header_found result ≡ inspect_header (model kind.now) page.now }
+    ensures width { IfOk result (λ h. h.shape.record_width ≡ record_width (K.model kind.now)) }
+    ensures answer { header_found result ≡ inspect_header (K.model kind.now) page.now }
 {
     let parts = header_parts(page);
     if parts.kind != kind.number() {

@@ -46,20 +46,20 @@ pub(crate) fn walk<S: PageStore, K: RecordKind>(
     high: High<'_>,
     slot: usize,
 ) -> Result<(), PageFault>
-    requires width { ground.shape.record_width ≡ record_width (model kind.now) }
+    requires width { ground.shape.record_width ≡ record_width (K.model kind.now) }
     requires some { 1 ≤ fewest }
     requires few { (ground.used ≤ 1024) × (slot < ground.used) }
-    requires low { LowLong (model kind.now).key_width low }
-    requires high { HighLong (model kind.now).key_width high }
-    requires there { ground.used * slot_pages_of (chosen ground.shape) < length (state store.old).pages }
-    ensures pages { (state store.new).pages ≡ (state store.old).pages }
+    requires low { LowLong (K.model kind.now).key_width low }
+    requires high { HighLong (K.model kind.now).key_width high }
+    requires there { ground.used * slot_pages_of (chosen ground.shape) < length (S.state store.old).pages }
+    ensures pages { (S.state store.new).pages ≡ (S.state store.old).pages }
     ensures answer { (before : List ℕ) → Lists listed.old before
         → Ended (slot_pages_of (chosen ground.shape)) (nodes_of h)
-        (walked (model kind.now) (chosen ground.shape)
-        (page_at (state store.old).pages) ground.used h
+        (walked (K.model kind.now) (chosen ground.shape)
+        (page_at (S.state store.old).pages) ground.used h
         fewest
         before (low_of low.entry) (high_of high.entry) slot)
-        result listed.new (state store.old) (state store.new) }
+        result listed.new (S.state store.old) (S.state store.new) }
 {
     let Ground { shape, used } = ground;
     let p = (1 + slot * shape.slot_pages() as usize) as u32;
@@ -104,27 +104,28 @@ fn walk_children<S: PageStore, K: RecordKind>(
     high: High<'_>,
     siblings: Siblings<'_>,
 ) -> Result<(), PageFault>
-    requires width { ground.shape.record_width ≡ record_width (model kind.now) }
+    requires width { ground.shape.record_width ≡ record_width (K.model kind.now) }
     requires few { (ground.used ≤ 1024) × (siblings.n < 8) }
-    requires low { LowLong (model kind.now).key_width low }
-    requires high { HighLong (model kind.now).key_width high }
-    requires there { ground.used * slot_pages_of (chosen ground.shape) < length (state store.old).pages }
-    requires long { (2 * siblings.n + 2 ≤ length siblings.slots.now) × (siblings.n * (model kind.now).key_width ≤ length siblings.keys.now) }
-    requires below { SlotsBelow ground.used (children_from (model kind.now).key_width siblings.n
+    requires low { LowLong (K.model kind.now).key_width low }
+    requires high { HighLong (K.model kind.now).key_width high }
+    requires there { ground.used * slot_pages_of (chosen ground.shape) < length (S.state store.old).pages }
+    requires long { (2 * siblings.n + 2 ≤ length siblings.slots.now)
+        × (siblings.n * (K.model kind.now).key_width ≤ length siblings.keys.now) }
+    requires below { SlotsBelow ground.used (children_from (K.model kind.now).key_width siblings.n
         siblings.slots.now
         siblings.keys.now) }
-    ensures pages { (state store.new).pages ≡ (state store.old).pages }
+    ensures pages { (S.state store.new).pages ≡ (S.state store.old).pages }
     ensures answer { (before : List ℕ) → Lists listed.old before
         → Ended (slot_pages_of (chosen ground.shape)) (nodes_of_all h)
         (walk_children
-        (walked (model kind.now) (chosen ground.shape)
-        (page_at (state store.old).pages) ground.used h
+        (walked (K.model kind.now) (chosen ground.shape)
+        (page_at (S.state store.old).pages) ground.used h
         (least_children_of (chosen ground.shape)))
         before (low_of low.entry) (high_of high.entry)
-        (children_from (model kind.now).key_width siblings.entry.n
+        (children_from (K.model kind.now).key_width siblings.entry.n
         siblings.entry.slots.now
         siblings.entry.keys.now))
-        result listed.new (state store.old) (state store.new) }
+        result listed.new (S.state store.old) (S.state store.new) }
 {
     let Siblings { n, slots, keys } = siblings;
     let fewest = ground.shape.least_children() as usize;

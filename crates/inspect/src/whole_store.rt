@@ -17,10 +17,10 @@ use stores::{Page, PageStore};
 // Reads page p; a page that the store has not is a fault of that page.
 fn read_page<S: PageStore>(store: &mut S, p: u32, page: &mut Page) -> Result<(), PageFault>
     ensures { MatchResult result
-        (λ _. WasRead (state store.old) p (state store.new) page.exit.now)
-        (λ f. (f ≡ PageFault.Store (record { page = p; size = length (state store.old).pages }))
-        × (length (state store.old).pages ≤ p)
-        × (state store.new ≡ state store.old)) }
+        (λ _. WasRead (S.state store.old) p (S.state store.new) page.exit.now)
+        (λ f. (f ≡ PageFault.Store (record { page = p; size = length (S.state store.old).pages }))
+        × (length (S.state store.old).pages ≤ p)
+        × (S.state store.new ≡ S.state store.old)) }
 {
     store.read(p, page)?;
     Ok(())
@@ -31,14 +31,14 @@ pub fn inspect_store<S: PageStore, K: RecordKind>(
     store: &mut S,
     kind: &K,
 ) -> Result<Header, OpenFault>
-    ensures pages { (state store.new).pages ≡ (state store.old).pages }
-    ensures width { IfOk result (λ h. h.shape.record_width ≡ record_width (model kind.now)) }
-    ensures answer { header_found result ≡ header_held (inspection (model kind.now)
-        (state store.old).pages) }
+    ensures pages { (S.state store.new).pages ≡ (S.state store.old).pages }
+    ensures width { IfOk result (λ h. h.shape.record_width ≡ record_width (K.model kind.now)) }
+    ensures answer { header_found result ≡ header_held (inspection (K.model kind.now)
+        (S.state store.old).pages) }
     ensures looked { (s : Stored)
-        → inspection (model kind.now) (state store.old).pages ≡ Result.Ok s
-        → Looked (state store.old) (2 + s.index.used * slot_pages_of s.shape)
-        (state store.new) }
+        → inspection (K.model kind.now) (S.state store.old).pages ≡ Result.Ok s
+        → Looked (S.state store.old) (2 + s.index.used * slot_pages_of s.shape)
+        (S.state store.new) }
 {
     let mut page = [0; 512];
     read_page(store, 0, &mut page)?;

@@ -57,17 +57,17 @@ pub(crate) fn inspect_tree<S: PageStore, K: RecordKind>(
     root: usize,
     height: usize,
 ) -> Result<(), PageFault>
-    requires width { shape.record_width ≡ record_width (model kind.now) }
+    requires width { shape.record_width ≡ record_width (K.model kind.now) }
     requires few { (used ≤ 1024) × (root < used) }
-    requires there { used * slot_pages_of (chosen shape) < length (state store.old).pages }
-    ensures pages { (state store.new).pages ≡ (state store.old).pages }
-    ensures answer { result ≡ told (walk_tree (model kind.now) (chosen shape)
-        (page_at (state store.old).pages) used height root) }
+    requires there { used * slot_pages_of (chosen shape) < length (S.state store.old).pages }
+    ensures pages { (S.state store.new).pages ≡ (S.state store.old).pages }
+    ensures answer { result ≡ told (walk_tree (K.model kind.now) (chosen shape)
+        (page_at (S.state store.old).pages) used height root) }
     ensures looked { (t : ByteTree height)
-        → walk_tree (model kind.now) (chosen shape) (page_at (state store.old).pages) used height
+        → walk_tree (K.model kind.now) (chosen shape) (page_at (S.state store.old).pages) used height
         root ≡ Result.Ok t
-        → Looked (state store.old) (slot_pages_of (chosen shape) * nodes_of height t)
-        (state store.new) }
+        → Looked (S.state store.old) (slot_pages_of (chosen shape) * nodes_of height t)
+        (S.state store.new) }
 {
     let mut listed = list_root(root);
     let ground = Ground { shape, used };

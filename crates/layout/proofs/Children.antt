@@ -1,7 +1,7 @@
 -- Small facts that both directions of the walk share: children and the slots that stand for them on a page, and the
 -- pages of a slot as a node page and a d-tree.
 use Rattle.std.proofs.Common.{◌≡◌, ℕ, suc, ◌+◌, Bool, true, false, List, [], ◌∷◌, map, length, sym, refl, ap, ◌∙◌}
-use Rattle.std.specs.List.{AllByRecursion as All}
+use Rattle.std.specs.List.{AllByRecursion}
 use Rattle.std.proofs.ByRecursion.{All-weaker}
 use Rattle.records.specs.Kind.{Kind}
 use Rattle.shape.specs.Shape.{Shape, ceiling}
@@ -64,16 +64,18 @@ node_with_slots n ts bytes e =
 
 -- good entries of a leaf node and of an inner node
 
-pub no_tombstones : (kind : Kind) (es : List ByteEntry) → All (GoodEntry kind true) es → NoTombstones es
+pub no_tombstones : (kind : Kind) (es : List ByteEntry) → AllByRecursion (GoodEntry kind true) es → NoTombstones es
 no_tombstones kind [] h = tt
 no_tombstones kind (e ∷ es) h = (h.0.1, no_tombstones kind es h.1)
 
 pub good_in_leaf :
-    (kind : Kind) (es : List ByteEntry) → All (ValidEntry kind) es → NoTombstones es → All (GoodEntry kind true) es
+    (kind : Kind) (es : List ByteEntry) → AllByRecursion (ValidEntry kind) es → NoTombstones es
+    → AllByRecursion (GoodEntry kind true) es
 good_in_leaf kind [] v h = tt
 good_in_leaf kind (e ∷ es) v h = ((v.0, h.0), good_in_leaf kind es v.1 h.1)
 
-pub good_in_inner : (kind : Kind) (es : List ByteEntry) → All (ValidEntry kind) es → All (GoodEntry kind false) es
+pub good_in_inner :
+    (kind : Kind) (es : List ByteEntry) → AllByRecursion (ValidEntry kind) es → AllByRecursion (GoodEntry kind false) es
 good_in_inner kind = All-weaker (ValidEntry kind) (GoodEntry kind false) (λ e v. (v, tt))
 
 module _ (kind : Kind) (shape : Shape) (page : ℕ → List ℕ) where
@@ -97,7 +99,7 @@ module _ (kind : Kind) (shape : Shape) (page : ℕ → List ℕ) where
       (leaf : Bool) (hi : High (List ℕ)) (lo : Low (List ℕ)) (slot : ℕ) (cs : List ℕ) (sks : List (List ℕ))
       (es : List ByteEntry)
       → SlotHolds kind shape page slot cs sks es
-      → All (GoodEntry kind leaf) es → Ascending (ordered_below kind) lo hi es
+      → AllByRecursion (GoodEntry kind leaf) es → Ascending (ordered_below kind) lo hi es
       → DTreeHeld kind shape.per_page page leaf hi (length es) lo (head_page_of shape slot) es
   dtree_of leaf hi lo slot cs sks es s good asc = record {
     count = refl;

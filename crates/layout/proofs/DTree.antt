@@ -1,7 +1,7 @@
 -- A d-tree over its head page and leaf pages: the entries of the pages, one page after the other, are the list cut into
 -- groups of E, so the inspection accepts exactly the encoded pages.
-use Rattle.std.proofs.Common.{◌≡◌, ℕ, zero, suc, ◌+◌, ◌-◌, ◌*◌, ◌%◌, ◌<◌, ◌≤◌, min, Bool, true, ◌&&◌, eqb, List, [], ◌∷◌, ◌++◌, length, get_or, take, drop, Ok, sym, refl, ap, ◌∙◌, subst, inl, inr, mul_le_mul_right, mod-lt, suc-mul, div-add-mod', zero-mul, arith, take-add}
-use Rattle.std.specs.List.{flat_map, AllByRecursion as All}
+use Rattle.std.proofs.Common.{◌≡◌, ℕ, zero, suc, ◌+◌, ◌-◌, ◌*◌, ◌%◌, ◌<◌, ◌≤◌, min, Bool, true, ◌&&◌, eqb, List, [], ◌∷◌, ◌++◌, length, get_or, take, drop, Ok, sym, refl, ap, ◌∙◌, subst, inl, inr, mul-le-mul_right, mod-lt, suc-mul, div-add-mod', zero-mul, arith, take-add}
+use Rattle.std.specs.List.{flat_map, AllByRecursion}
 use Rattle.std.proofs.ByRecursion.{All-take, All-drop, All-append, All-weaker, All-get_or}
 use Rattle.std.proofs.lemmas.Bool.{and_parts, eqb-true, eq-eqb, cases_lt}
 use Rattle.std.proofs.lemmas.List.{take-append-drop, length-take-le, length-take, length-drop, length-append, take_at, drop_at, take_all, drop_all, drop-drop, nil_from_length, append-nil, append_assoc}
@@ -20,7 +20,7 @@ use Rattle.layout.proofs.LeafPage.{GoodEntry, FirstIs, leaf_page_holds, leaf_pag
 -- page p is a whole page of bytes
 pub record WholePage (page : ℕ → List ℕ) (p : ℕ) : Type 0 where
   pub long : length (page p) ≡ 512
-  pub bytes : All (λ b. b < 256) (page p)
+  pub bytes : AllByRecursion (λ b. b < 256) (page p)
 
 -- n pages of E entries are just enough for s
 record JustEnough (n E s : ℕ) : Type 0 where
@@ -86,12 +86,14 @@ drop-group E s xs ys a b =
 
 -- the first keys of pages
 
-first_key_lem : (first : List ℕ) (xs ys : List ByteEntry) → FirstIs first xs → 1 ≤ length xs → first_key (xs ++ ys) ≡ first
+first_key_lem :
+    (first : List ℕ) (xs ys : List ByteEntry) → FirstIs first xs → 1 ≤ length xs → first_key (xs ++ ys) ≡ first
 first_key_lem first [] ys f h = absurd (omega arith)
 first_key_lem first (x ∷ xs) ys f h = f
 
 first_long :
-    {kind : Kind} → Lawful kind → (leaf : Bool) (es : List ByteEntry) → 1 ≤ length es → All (GoodEntry kind leaf) es
+    {kind : Kind} → Lawful kind → (leaf : Bool) (es : List ByteEntry) → 1 ≤ length es
+    → AllByRecursion (GoodEntry kind leaf) es
     → length (first_key es) ≡ kind.key_width
 first_long law leaf [] h o = absurd (omega arith)
 first_long law leaf (e ∷ es) h o = law.key_long e.key o.0.0.0
@@ -168,7 +170,7 @@ module _ (kind : Kind) (E : ℕ) (page : ℕ → List ℕ) (leaf : Bool) (hi : H
   record LeavesHeld (n s : ℕ) (lo : Low (List ℕ)) (firsts : List ℕ) (p : ℕ) (es : List ByteEntry) : Type 0 where
     pub count : length es ≡ s
     pub ascending : Ascending (ordered_below kind) lo hi es
-    pub good : All (GoodEntry kind leaf) es
+    pub good : AllByRecursion (GoodEntry kind leaf) es
     pub starts : first_bytes n E es ≡ take (n * kind.key_width) firsts
     pub leaves : LeavesHold kind E page n p es
 
@@ -176,7 +178,7 @@ module _ (kind : Kind) (E : ℕ) (page : ℕ → List ℕ) (leaf : Bool) (hi : H
   pub record DTreeHeld (s : ℕ) (lo : Low (List ℕ)) (p : ℕ) (es : List ByteEntry) : Type 0 where
     pub count : length es ≡ s
     pub ascending : Ascending (ordered_below kind) lo hi es
-    pub good : All (GoodEntry kind leaf) es
+    pub good : AllByRecursion (GoodEntry kind leaf) es
     pub head : page p ≡ head_page (first_keys (ceiling s E) E es)
     pub leaves : LeavesHold kind E page (ceiling s E) (p + 1) es
 
@@ -198,7 +200,7 @@ module _ (kind : Kind) (E : ℕ) (page : ℕ → List ℕ) (leaf : Bool) (hi : H
         let ys = b.0 in
         let e : xs ++ ys ≡ es = cc b.2 in
         let here = pages p (omega arith) (omega arith) in
-        let le = mul_le_mul_right {m = min E s} {n = E} (record_width kind) (omega arith) in
+        let le = mul-le-mul_right {m = min E s} {n = E} (record_width kind) (omega arith) in
         let x =
         leaf_page_holds kind leaf (min E s) lo hi (take w firsts) p (page p) xs here.long here.bytes (omega arith)
         a.1 in
@@ -260,7 +262,7 @@ module _ (kind : Kind) (E : ℕ) (page : ℕ → List ℕ) (leaf : Bool) (hi : H
         rw (x, y) (ap Ok (take-append-drop E es))
 
     length-firsts :
-        (n s : ℕ) (es : List ByteEntry) → JustEnough n E s → length es ≡ s → All (GoodEntry kind leaf) es
+        (n s : ℕ) (es : List ByteEntry) → JustEnough n E s → length es ≡ s → AllByRecursion (GoodEntry kind leaf) es
         → length (first_bytes n E es) ≡ n * kind.key_width
     unfolding first_keys
     length-firsts zero s es f c o = sym (zero-mul kind.key_width)
@@ -342,7 +344,7 @@ module _ (kind : Kind) (E : ℕ) (page : ℕ → List ℕ) (leaf : Bool) (hi : H
 -- what is read from the head page of a node with entries
 
 first_valid :
-    {kind : Kind} → Lawful kind → (es : List ByteEntry) → 1 ≤ length es → All (ValidEntry kind) es
+    {kind : Kind} → Lawful kind → (es : List ByteEntry) → 1 ≤ length es → AllByRecursion (ValidEntry kind) es
     → kind.valid_key (first_key es) ≡ true
 first_valid law [] h o = absurd (omega arith)
 first_valid law (e ∷ es) h o = o.0.0
@@ -350,7 +352,7 @@ first_valid law (e ∷ es) h o = o.0.0
 -- the keys of pages that are all filled
 firsts_valid :
     {kind : Kind} → Lawful kind → (n E s : ℕ) (es : List ByteEntry) → JustEnough n E s → length es ≡ s
-    → All (ValidEntry kind) es → All (λ key. kind.valid_key key ≡ true) (first_keys n E es)
+    → AllByRecursion (ValidEntry kind) es → AllByRecursion (λ key. kind.valid_key key ≡ true) (first_keys n E es)
 unfolding first_keys
 firsts_valid law zero E s es f c o = tt
 firsts_valid {kind = kind} law (suc n) E s es f c o =
@@ -371,7 +373,8 @@ first_at (suc n) E es (suc j) l =
 
 -- keys of one width, one after the other
 key_at :
-    (w : ℕ) (keys : List (List ℕ)) (rest : List ℕ) (j : ℕ) → All (λ key. length key ≡ w) keys → j < length keys
+    (w : ℕ) (keys : List (List ℕ)) (rest : List ℕ) (j : ℕ) → AllByRecursion (λ key. length key ≡ w) keys
+    → j < length keys
     → take w (drop (j * w) (flat_map (λ key. key) keys ++ rest)) ≡ get_or keys j []
 key_at w [] rest j wide l = absurd (omega arith)
 key_at w (key ∷ keys) rest zero wide l =
@@ -394,7 +397,8 @@ pub record HeadPageRead (kind : Kind) (E : ℕ) (page : List ℕ) (es : List Byt
   pub filled : (j : ℕ) → j < ceiling (length es) E → j * E < length es
 
 pub head_page_read :
-    (kind : Kind) → Lawful kind → (E : ℕ) (page : List ℕ) (es : List ByteEntry) → 1 ≤ E → All (ValidEntry kind) es
+    (kind : Kind) → Lawful kind → (E : ℕ) (page : List ℕ) (es : List ByteEntry) → 1 ≤ E
+    → AllByRecursion (ValidEntry kind) es
     → page ≡ head_page (first_keys (ceiling (length es) E) E es) → HeadPageRead kind E page es
 unfolding head_page
 head_page_read kind law E page es some valid e =
@@ -414,5 +418,5 @@ head_page_read kind law E page es some valid e =
           ap kind.valid_key (sym (at j l))
           ∙ All-get_or (λ key. kind.valid_key key ≡ true) keys j [] (omega (arith, long)) good;
       filled = λ j l.
-          omega (arith, f.tight, mul_le_mul_right {m = suc j} {n = n} E l, suc-mul j E);
+          omega (arith, f.tight, mul-le-mul_right {m = suc j} {n = n} E l, suc-mul j E);
     }

@@ -1,7 +1,7 @@
 -- The children on a node page are the slots of the node's children with the same s-keys, so a key belongs to the same
 -- place in both; and what holds of all children holds of the one in that place.
 use Rattle.std.proofs.Common.{◌≡◌, ℕ, zero, suc, ◌<◌, ◌≤◌, Bool, cond, List, length, sym, refl, ap, ◌∙◌, subst, inl, inr, arith}
-use Rattle.std.specs.List.{AllByRecursion as All}
+use Rattle.std.specs.List.{AllByRecursion}
 use Rattle.std.proofs.lemmas.Bool.{eq-eqb, le-ltb, cases_lt}
 use Rattle.records.specs.Kind.{Kind, Lawful}
 use Rattle.stores.specs.Store.{StoreState, page_at}
@@ -62,8 +62,8 @@ module _ (kind : Kind) (law : Lawful kind) (shape : Shape) (fit : Fits kind shap
       let n = length t.entries in
       let low : AllBelow used cs =
       slots_below used cs (λ x l. omega (arith, o.slots x l, own_slots x h ts)) in
-      let valid : All (ValidKey kind) (s_key_list cs) =
-      subst (λ x. All (ValidKey kind) x) (sym (keys_map (λ t. t.slot) ts)) o.valid.1 in
+      let valid : AllByRecursion (ValidKey kind) (s_key_list cs) =
+      subst (λ x. AllByRecursion (ValidKey kind) x) (sym (keys_map (λ t. t.slot) ts)) o.valid.1 in
       let node = node_with_slots n ts (page (node_page_of shape t.slot)) o.stands.0.node in
       inner_read kind.key_width cs n (page (node_page_of shape t.slot)) (two_bytes_lem used cs few low)
       (s_keys_long kind law cs valid) (omega (arith, o.sound.1, fit.few_entries)) node
@@ -108,7 +108,7 @@ module _ (kind : Kind) (law : Lawful kind) (shape : Shape) (fit : Fits kind shap
     pub low : Low (List ℕ)
     pub high : High (List ℕ)
     pub ascend : SKeysAscend (key_below kind) low high (children_in kind shape page t.slot)
-    pub valid : All (ValidKey kind) (s_key_list (children_in kind shape page t.slot))
+    pub valid : AllByRecursion (ValidKey kind) (s_key_list (children_in kind shape page t.slot))
 
   pub read_children : (h : ℕ) (t : ByteTree (suc h)) → Branching kind shape page used (suc h) t → ChildrenRead h t
   read_children h t b =
@@ -126,8 +126,8 @@ module _ (kind : Kind) (law : Lawful kind) (shape : Shape) (fit : Fits kind shap
             subst (λ cs. SKeysAscend (key_below kind) o.low o.high cs) (sym on.children)
             (ascend_map slot (key_below kind) o.low o.high ts o.sound.3);
         valid =
-            subst (λ cs. All (ValidKey kind) (s_key_list cs)) (sym on.children)
-            (subst (λ x. All (ValidKey kind) x) (sym (keys_map slot ts)) o.valid.1);
+            subst (λ cs. AllByRecursion (ValidKey kind) (s_key_list cs)) (sym on.children)
+            (subst (λ x. AllByRecursion (ValidKey kind) x) (sym (keys_map slot ts)) o.valid.1);
       }
 
   pub child_for :
@@ -162,6 +162,7 @@ module _ (kind : Kind) (law : Lawful kind) (shape : Shape) (fit : Fits kind shap
   pub child_branching :
       (h : ℕ) (key : List ℕ) (t : ByteTree (suc h)) → (o : Subtree kind shape page used (suc h) t)
       → Branching kind shape page used h (child_for h key t o).child
+  unfolding child_for
   child_branching h key t o = record { subtree = (child_for h key t o).subtree; two = fit.some_children }
 
 pub s_keys_tell_the_child : Everywhere SKeysTellTheChild
@@ -185,5 +186,6 @@ pub root_branching :
     (kind : Kind) (law : Lawful kind) (store : StoreState) (whole : stores.Lawful store) (s : Stored)
     (o : Holds kind store.pages s)
     → Branching kind s.shape (page_at store.pages) s.index.used s.index.height s.index.root
+unfolding s_keys_tell_the_child
 root_branching kind law store whole s o =
     record { subtree = (s_keys_tell_the_child kind law store whole s o).0; two = omega arith }

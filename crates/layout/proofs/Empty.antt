@@ -1,5 +1,5 @@
 -- Three writes make an empty index: a page of zeros is the head page of no entries, and the node page of an empty leaf.
-use Rattle.std.proofs.Common.{◌≡◌, ℕ, ◌+◌, List, [], ◌∷◌, ◌++◌, set, replicate, sym, ap, ◌∙◌, arith}
+use Rattle.std.proofs.Common.{◌≡◌, ℕ, List, [], ◌∷◌, ◌++◌, set, replicate, sym, ap, ◌∙◌, arith}
 use Rattle.records.specs.BytesLemmas.{bytes_of_two}
 use Rattle.stores.specs.Store.{StoreState, touched_once}
 use Rattle.shape.specs.Shape.{Shape}

@@ -1,6 +1,6 @@
 -- The three pages that format writes are the encoding of the empty index: one leaf node in slot 0 with no entries, its
 -- node page page 1 and its head page page 2; no leaf page is filled.
-use Rattle.std.proofs.Common.{◌≡◌, ℕ, zero, suc, ◌+◌, ◌-◌, ◌<◌, ◌≤◌, false, eqb, ltb, List, [], length, set, sym, refl, ap, ◌∙◌, arith, lit<}
+use Rattle.std.proofs.Common.{◌≡◌, ℕ, zero, suc, ◌+◌, ◌≤◌, false, eqb, ltb, List, [], length, set, sym, refl, ap, ◌∙◌, arith, lit<}
 use native.Mathlib.Nat.{div-eq_of_lt}
 use Rattle.std.proofs.lemmas.List.{get_or-set_same, get_or-set_other, length-set}
 use Rattle.std.proofs.lemmas.Bool.{ne_eqb, le-ltb}

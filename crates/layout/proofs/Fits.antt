@@ -1,6 +1,6 @@
 -- What a legal shape leaves room for: a leaf page has 503 bytes for entries, the first keys of at most 16 leaf pages
 -- stand on the head page, and at most 8 children with keys of at most 24 bytes on a node page.
-use Rattle.std.proofs.Common.{◌≡◌, ℕ, ◌+◌, ◌-◌, ◌*◌, ◌≤◌, true, mul_le_mul, le-div_iff_mul-le, div-mul-le_self, arith}
+use Rattle.std.proofs.Common.{◌≡◌, ℕ, ◌+◌, ◌-◌, ◌*◌, ◌≤◌, true, mul-le-mul, le-div_iff_mul-le, div-mul-le_self, arith}
 use Rattle.std.proofs.lemmas.Bool.{and_parts, leb-true}
 use Rattle.records.specs.Kind.{Kind, Lawful, record_width}
 use Rattle.records.specs.Tests.{between}
@@ -44,9 +44,9 @@ fits kind shape law h =
       leaf_room = omega arith;
       head_room = λ s l.
           let g : ceiling s E ≤ 16 = omega (arith, filled s l) in
-          omega (arith, mul_le_mul {n₁ = ceiling s E} {m₁ = w} {n₂ = 16} {m₂ = 24} g law.key_most);
+          omega (arith, mul-le-mul {n₁ = ceiling s E} {m₁ = w} {n₂ = 16} {m₂ = 24} g law.key_most);
       slot_room = λ s l. omega (arith, filled s l);
-      node_room = omega (arith, mul_le_mul {n₁ = shape.fanout} {m₁ = w} {n₂ = 8} {m₂ = 24} f.1 law.key_most);
+      node_room = omega (arith, mul-le-mul {n₁ = shape.fanout} {m₁ = w} {n₂ = 8} {m₂ = 24} f.1 law.key_most);
       few_entries = σ.1;
       few_children = f.1;
       some_children = omega (arith, f.0);

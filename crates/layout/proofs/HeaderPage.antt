@@ -1,6 +1,6 @@
 -- Page 0 and its numbers determine each other, since each number fits the bytes that it has.
 use Rattle.std.proofs.Common.{◌≡◌, ℕ, suc, ◌+◌, ◌/◌, ◌%◌, ◌^◌, ◌<◌, ◌≤◌, true, List, [], ◌∷◌, ◌++◌, length, get_or, take, drop, sym, refl, ap, ◌∙◌, arith, take-add}
-use Rattle.std.specs.List.{AllByRecursion as All}
+use Rattle.std.specs.List.{AllByRecursion}
 use Rattle.std.proofs.ByRecursion.{All-take, All-drop}
 use Rattle.std.proofs.lemmas.List.{length-take-le, length-drop, drop-drop, drop_more, append-nil}
 use Rattle.records.specs.Bytes.{word, field, bytes_of}
@@ -64,7 +64,7 @@ module _ (page : List ℕ) (long : length page ≡ 512) where
       rw e (ap (take (suc n)) (drop_more page at 0 (omega arith)))
 
   number :
-      All (λ b. b < 256) page → (w n at : ℕ) → at + w ≤ 512
+      AllByRecursion (λ b. b < 256) page → (w n at : ℕ) → at + w ≤ 512
       → take (w + n) (drop at page) ≡ bytes_of w (field at w page) ++ take n (drop (at + w) page)
   number small w n at l =
       let bs = take w (drop at page) in
@@ -76,7 +76,7 @@ module _ (page : List ℕ) (long : length page ≡ 512) where
 
 -- a page whose rest is zero is page 0 of the numbers on it
 pub header_page_lem :
-    (page : List ℕ) → length page ≡ 512 → All (λ b. b < 256) page → zeros (drop 14 page) ≡ true
+    (page : List ℕ) → length page ≡ 512 → AllByRecursion (λ b. b < 256) page → zeros (drop 14 page) ≡ true
     → page ≡ header_page (get_or page 0 0) (header_on page)
 header_page_lem page long small z =
     let changes : take 4 (drop 10 page) ≡ bytes_of 4 (field 10 4 page) =

@@ -1,7 +1,7 @@
 -- The inspection of a store accepts an index exactly when the pages hold it: page 0 and its numbers determine each
 -- other, the walk accepts exactly the tree that stands on the pages, and the kind's order is the tree's on valid keys.
 use Rattle.std.proofs.Common.{◌≡◌, ℕ, suc, ◌+◌, ◌-◌, ◌*◌, ◌^◌, ◌<◌, ◌≤◌, true, cond, eqb, ltb, List, length, get_or, take, drop, Ok, Err, Result, sym, refl, ap, ◌∙◌, subst, inl, inr, arith}
-use Rattle.std.specs.List.{AllByRecursion as All}
+use Rattle.std.specs.List.{AllByRecursion}
 use Rattle.std.proofs.lemmas.Int.Digits.{number_lt}
 use Rattle.std.proofs.ByRecursion.{All-take, All-drop}
 use Rattle.std.proofs.lemmas.List.{length-take-le, length-drop}
@@ -19,7 +19,6 @@ use Rattle.layout.specs.Pages.{Header, header_page}
 use Rattle.layout.specs.Holds.{Stored, header_for, Holds}
 use Rattle.layout.specs.Checked.{Checked, then, zeros}
 use Rattle.layout.specs.LeafPages.{ordered_below}
-use Rattle.layout.specs.Nodes.{is}
 use Rattle.layout.specs.Walk.{walk_tree}
 use Rattle.layout.specs.Inspection.{not_there, header_on, good_header, stored_by}
 use Rattle.layout.specs.Inspection.{fault_at_page, inspect_nodes, inspect_by, inspection}
@@ -41,7 +40,8 @@ fault_ok : {A : Type 0} (x : Checked A) (a : A) → fault_at_page x ≡ Ok a →
 fault_ok (Ok b) a e = let c : b ≡ a = cc in ap Ok c
 fault_ok (Err f) a e = let c : ◌≡◌ {A = ℕ} 0 1 = cc in absurd (omega arith)
 
-field_small : (at w : ℕ) (page : List ℕ) → at + w ≤ length page → All (λ b. b < 256) page → field at w page < 256 ^ w
+field_small :
+    (at w : ℕ) (page : List ℕ) → at + w ≤ length page → AllByRecursion (λ b. b < 256) page → field at w page < 256 ^ w
 field_small at w page l small =
     let bs = take w (drop at page) in
     let e : length bs ≡ w = length-take-le w (drop at page) (omega (arith, length-drop at page)) in

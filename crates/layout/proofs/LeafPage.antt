@@ -1,7 +1,7 @@
 -- One leaf page: the inspection accepts it with some entries exactly when it is their encoding and they are good, since
 -- each test is one part of that, and bytes and entries determine each other.
 use Rattle.std.proofs.Common.{◌≡◌, ℕ, zero, suc, ◌+◌, ◌-◌, ◌*◌, ◌^◌, ◌<◌, ◌≤◌, Bool, true, false, ◌&&◌, eqb, List, [], ◌∷◌, ◌++◌, map, length, get_or, take, drop, replicate, is_some, Some, None, Ok, Option, sym, refl, ap, ◌∙◌, subst, inl, inr, append_assoc, arith, take-add, pow_pos, pow_mono}
-use Rattle.std.specs.List.{flat_map, AllByRecursion as All}
+use Rattle.std.specs.List.{flat_map, AllByRecursion}
 use Rattle.std.proofs.lemmas.Slice.Eq.{bytes_eq-Decides}
 use Rattle.std.proofs.ByRecursion.{All-take, All-drop, All-weaker}
 use Rattle.std.proofs.lemmas.Bool.{and_parts, and_from, eqb-true, eq-eqb, ltb-true, lt-ltb, not-true, not_from_false, cases_Bool, both_ways}
@@ -45,7 +45,8 @@ abbrev pub GoodEntry : Kind → Bool → ByteEntry → Type 0
 GoodEntry kind leaf e = ValidEntry kind e × LiveIn leaf e.value
 
 pub good_valid :
-    (kind : Kind) (leaf : Bool) (es : List ByteEntry) → All (GoodEntry kind leaf) es → All (ValidEntry kind) es
+    (kind : Kind) (leaf : Bool) (es : List ByteEntry) → AllByRecursion (GoodEntry kind leaf) es
+    → AllByRecursion (ValidEntry kind) es
 good_valid kind leaf = All-weaker (GoodEntry kind leaf) (ValidEntry kind) (λ e h. h.0)
 
 abbrev pub FirstIs : List ℕ → List ByteEntry → Type 0
@@ -58,7 +59,7 @@ pub record LeafPageHeld (kind : Kind) (leaf : Bool) (t : ℕ) (lo : Low (List �
   pub bytes : page ≡ leaf_page kind es
   pub count : length es ≡ t
   pub ascending : Ascending (ordered_below kind) lo hi es
-  pub good : All (GoodEntry kind leaf) es
+  pub good : AllByRecursion (GoodEntry kind leaf) es
   pub starts : FirstIs first es
 
 -- tests of keys
@@ -109,7 +110,7 @@ key_from kind lo hi a h =
     and_from _ _ h.valid (and_from _ _ (above_from kind lo a h.above) (below_from kind hi a h.below))
 
 abbrev ValidKeys : Kind → List RawEntry → Type 0
-ValidKeys kind = All (λ r. kind.valid_key r.key ≡ true)
+ValidKeys kind = AllByRecursion (λ r. kind.valid_key r.key ≡ true)
 
 keys_are :
     (kind : Kind) (lo : Low (List ℕ)) (hi : High (List ℕ)) (rs : List RawEntry) → good_keys kind lo hi rs ≡ true
@@ -134,7 +135,7 @@ keys_from kind lo hi (r ∷ rs) v a =
 -- tests of marks, values and the first key
 
 abbrev LiveRaw : Bool → List RawEntry → Type 0
-LiveRaw leaf = All (λ r. LiveIn leaf (value_unless r.marked r.value))
+LiveRaw leaf = AllByRecursion (λ r. LiveIn leaf (value_unless r.marked r.value))
 
 any_live : (rs : List RawEntry) → LiveRaw false rs
 any_live [] = tt
@@ -160,7 +161,7 @@ value_is kind false x h = h
 
 entries_good :
     (kind : Kind) (leaf : Bool) (rs : List RawEntry) → ValidKeys kind rs → good_values kind rs ≡ true → LiveRaw leaf rs
-    → All (GoodEntry kind leaf) (map entry_of rs)
+    → AllByRecursion (GoodEntry kind leaf) (map entry_of rs)
 unfolding good_values
 entries_good kind leaf [] v p s = tt
 entries_good kind leaf (r ∷ rs) v p s =
@@ -190,7 +191,7 @@ front_is (x ∷ page) n t xs ys l a b c =
 pub leaf_page_holds :
     (kind : Kind) (leaf : Bool) (t : ℕ) (lo : Low (List ℕ)) (hi : High (List ℕ)) (first : List ℕ) (p : ℕ)
     (page : List ℕ) (es : List ByteEntry)
-    → length page ≡ 512 → All (λ b. b < 256) page → 9 + t * record_width kind ≤ 512
+    → length page ≡ 512 → AllByRecursion (λ b. b < 256) page → 9 + t * record_width kind ≤ 512
     → inspect_leaf_page kind leaf t lo hi first p page ≡ Ok es → LeafPageHeld kind leaf t lo hi first page es
 unfolding inspect_leaf_page leaf_page
 leaf_page_holds kind leaf t lo hi first p page es long small fits h =
@@ -229,7 +230,7 @@ leaf_page_holds kind leaf t lo hi first p page es long small fits h =
 
 -- entries that stand on a page pass the tests
 
-no_marks : (kind : Kind) (es : List ByteEntry) → All (GoodEntry kind true) es → mark_word es ≡ 0
+no_marks : (kind : Kind) (es : List ByteEntry) → AllByRecursion (GoodEntry kind true) es → mark_word es ≡ 0
 unfolding mark_word
 no_marks kind [] h = refl
 no_marks kind (e ∷ es) h = omega (arith, go e.value h.0.1, no_marks kind es h.1)
@@ -239,13 +240,13 @@ no_marks kind (e ∷ es) h = omega (arith, go e.value h.0.1, no_marks kind es h.
     go (Some x) h = refl
 
 marks_pass :
-    (kind : Kind) (leaf : Bool) (es : List ByteEntry) (t : ℕ) → length es ≡ t → All (GoodEntry kind leaf) es
+    (kind : Kind) (leaf : Bool) (es : List ByteEntry) (t : ℕ) → length es ≡ t → AllByRecursion (GoodEntry kind leaf) es
     → good_marks leaf t (mark_word es) ≡ true
 marks_pass kind true es t l h = eq-eqb (mark_word es) 0 (no_marks kind es h)
 marks_pass kind false es t l h = lt-ltb (mark_word es) (2 ^ t) (rw l at (marks_small es))
 
 keys_pass :
-    (kind : Kind) (leaf : Bool) (es : List ByteEntry) → All (GoodEntry kind leaf) es
+    (kind : Kind) (leaf : Bool) (es : List ByteEntry) → AllByRecursion (GoodEntry kind leaf) es
     → ValidKeys kind (map (raw_of kind) es)
 keys_pass kind leaf [] h = tt
 keys_pass kind leaf (e ∷ es) h = (h.0.0.0, keys_pass kind leaf es h.1)
@@ -257,7 +258,7 @@ value_passes kind None h = zeros_replicate kind.value_width
 value_passes kind (Some x) h = h
 
 values_pass :
-    (kind : Kind) (leaf : Bool) (es : List ByteEntry) → All (GoodEntry kind leaf) es
+    (kind : Kind) (leaf : Bool) (es : List ByteEntry) → AllByRecursion (GoodEntry kind leaf) es
     → good_values kind (map (raw_of kind) es) ≡ true
 unfolding good_values
 values_pass kind leaf [] h = refl
@@ -271,7 +272,8 @@ pub record LeafPageRead (kind : Kind) (page : List ℕ) (es : List ByteEntry) : 
   pub entries : raw_entries_on kind (length es) page ≡ map (raw_of kind) es
 
 pub leaf_page_read :
-    (kind : Kind) → Lawful kind → (page : List ℕ) (es : List ByteEntry) → length es ≤ 64 → All (ValidEntry kind) es
+    (kind : Kind) → Lawful kind → (page : List ℕ) (es : List ByteEntry) → length es ≤ 64
+    → AllByRecursion (ValidEntry kind) es
     → page ≡ leaf_page kind es → LeafPageRead kind page es
 unfolding leaf_page
 leaf_page_read kind law page es few valid e =

@@ -1,7 +1,7 @@
 -- One node page: the slots of the children and the s-keys have fixed widths, so page and node determine each other, and
 -- the tests of s-keys say what the tree asks of them.
 use Rattle.std.proofs.Common.{◌≡◌, ℕ, zero, suc, ◌+◌, ◌-◌, ◌*◌, ◌<◌, ◌≤◌, true, List, [], ◌∷◌, ◌++◌, length, get_or, take, drop, replicate, sym, refl, ap, ◌∙◌, append_assoc, suc-mul, zero-mul, arith, take-add}
-use Rattle.std.specs.List.{flat_map, AllByRecursion as All}
+use Rattle.std.specs.List.{flat_map, AllByRecursion}
 use Rattle.std.proofs.ByRecursion.{All-take, All-drop, All-weaker}
 use Rattle.std.proofs.lemmas.Bool.{and_parts, and_from}
 use Rattle.std.proofs.lemmas.List.{length-take-le, length-drop, length-append, take_at, drop_at, drop-drop, append-nil}
@@ -41,11 +41,12 @@ count_from w (suc n) slots keys = ap suc (count_from w n (drop 2 slots) (drop w 
 -- from bytes to children, and back to the same bytes
 
 slot_back :
-    (slots : List ℕ) → 2 ≤ length slots → All (λ b. b < 256) slots → bytes_of 2 (word (take 2 slots)) ≡ take 2 slots
+    (slots : List ℕ) → 2 ≤ length slots → AllByRecursion (λ b. b < 256) slots
+    → bytes_of 2 (word (take 2 slots)) ≡ take 2 slots
 slot_back slots l b = bytes_of_word 2 (take 2 slots) (length-take-le 2 slots l) (All-take (λ b. b < 256) 2 slots b)
 
 slots_back :
-    (w n : ℕ) (slots keys : List ℕ) → 2 * suc n ≤ length slots → All (λ b. b < 256) slots
+    (w n : ℕ) (slots keys : List ℕ) → 2 * suc n ≤ length slots → AllByRecursion (λ b. b < 256) slots
     → slot_bytes (children_from w n slots keys) ≡ take (2 * suc n) slots
 unfolding children_from
 slots_back w zero slots keys l b = append-nil (bytes_of 2 (word (take 2 slots))) ∙ slot_back slots (omega arith) b
@@ -68,10 +69,10 @@ keys_back w (suc n) slots keys =
 -- from children to bytes, and back to the same children
 
 abbrev pub TwoBytes : SlotChildren → Type 0
-TwoBytes cs = All (λ x. x < 65536) (child_list cs)
+TwoBytes cs = AllByRecursion (λ x. x < 65536) (child_list cs)
 
 abbrev pub KeysLong : ℕ → SlotChildren → Type 0
-KeysLong w cs = All (λ key. length key ≡ w) (s_key_list cs)
+KeysLong w cs = AllByRecursion (λ key. length key ≡ w) (s_key_list cs)
 
 children_of_lem :
     (w n : ℕ) (cs : SlotChildren) (a b : List ℕ) → count cs ≡ suc n → TwoBytes cs → KeysLong w cs
@@ -120,7 +121,7 @@ length-keys w (more x sk cs) h = go (count cs) (some_children cs) (length-keys w
 module _ (kind : Kind) where
   pub s_keys_are :
       (lo : Low (List ℕ)) (hi : High (List ℕ)) (cs : SlotChildren) → good_s_keys kind lo hi cs ≡ true
-      → All (ValidKey kind) (s_key_list cs) × SKeysAscend (ordered_below kind) lo hi cs
+      → AllByRecursion (ValidKey kind) (s_key_list cs) × SKeysAscend (ordered_below kind) lo hi cs
   unfolding good_s_keys
   s_keys_are lo hi (one x) h = (tt, tt)
   s_keys_are lo hi (more x sk cs) h =
@@ -130,7 +131,7 @@ module _ (kind : Kind) where
       ((k.valid, ih.0), (k.above, k.below, ih.1))
 
   pub s_keys_from :
-      (lo : Low (List ℕ)) (hi : High (List ℕ)) (cs : SlotChildren) → All (ValidKey kind) (s_key_list cs)
+      (lo : Low (List ℕ)) (hi : High (List ℕ)) (cs : SlotChildren) → AllByRecursion (ValidKey kind) (s_key_list cs)
       → SKeysAscend (ordered_below kind) lo hi cs → good_s_keys kind lo hi cs ≡ true
   unfolding good_s_keys
   s_keys_from lo hi (one x) v h = refl
@@ -138,7 +139,8 @@ module _ (kind : Kind) where
       let k = key_from kind lo hi sk (record { valid = v.0; above = h.0; below = h.1 }) in
       and_from _ _ k (s_keys_from (past sk) hi cs v.1 h.2)
 
-  pub s_keys_long : Lawful kind → (cs : SlotChildren) → All (ValidKey kind) (s_key_list cs) → KeysLong kind.key_width cs
+  pub s_keys_long :
+      Lawful kind → (cs : SlotChildren) → AllByRecursion (ValidKey kind) (s_key_list cs) → KeysLong kind.key_width cs
   s_keys_long law cs =
       All-weaker (ValidKey kind) (λ key. length key ≡ kind.key_width) (λ key v. law.key_long key v) (s_key_list cs)
 
@@ -154,7 +156,7 @@ front_node (x ∷ page) n m c xs ys zs l a b d e =
     let e' : zs ≡ take m (drop (2 + n) page) = rw r at e in
     rw (q, a, b, d, e', take-add 2 (n + m) page, take-add n m (drop 2 page), drop-drop n 2 page)
 
-module _ (page : List ℕ) (long : length page ≡ 512) (bytes : All (λ b. b < 256) page) where
+module _ (page : List ℕ) (long : length page ≡ 512) (bytes : AllByRecursion (λ b. b < 256) page) where
   entries_back : bytes_of 2 (entry_count_on page) ≡ take 2 (drop 1 page)
   entries_back = slot_back (drop 1 page) (omega (arith, length-drop 1 page)) (All-drop (λ b. b < 256) 1 page bytes)
 

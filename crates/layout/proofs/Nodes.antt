@@ -1,7 +1,7 @@
 -- The inspection of a node page accepts exactly the pages of nodes that keep the rules: each test is one of them, and
 -- page and node determine each other.
-use Rattle.std.proofs.Common.{◌≡◌, ℕ, ◌+◌, ◌-◌, ◌*◌, ◌≤◌, true, ◌&&◌, eqb, leb, List, [], drop, Ok, ap, ◌∙◌, subst, mul_le_mul_right, arith}
-use Rattle.std.specs.List.{AllByRecursion as All}
+use Rattle.std.proofs.Common.{◌≡◌, ℕ, ◌+◌, ◌-◌, ◌*◌, ◌≤◌, true, ◌&&◌, eqb, leb, List, [], drop, Ok, ap, ◌∙◌, subst, mul-le-mul_right, arith}
+use Rattle.std.specs.List.{AllByRecursion}
 use Rattle.std.proofs.lemmas.Bool.{and_parts, and_from, eqb-true, eq-eqb, leb-true, le-leb}
 use Rattle.records.specs.Kind.{Kind, Lawful}
 use Rattle.shape.specs.Shape.{Shape}
@@ -59,7 +59,7 @@ module _ (kind : Kind) (shape : Shape) (page : ℕ → List ℕ) where
       pub at_least : fewest ≤ count cs
       pub at_most : count cs ≤ shape.fanout
       pub slots : good_slots used listed cs ≡ true
-      pub valid : All (ValidKey kind) (s_key_list cs)
+      pub valid : AllByRecursion (ValidKey kind) (s_key_list cs)
       pub ascend : SKeysAscend (ordered_below kind) lo hi cs
 
     children_counted :
@@ -87,7 +87,7 @@ module _ (kind : Kind) (shape : Shape) (page : ℕ → List ℕ) where
         let bounds = and_parts (leb fewest c) (leb c shape.fanout) t2.0 in
         let c1 : fewest ≤ c = leb-true fewest c bounds.0 in
         let c2 : c ≤ shape.fanout = leb-true c shape.fanout bounds.1 in
-        let room = mul_le_mul_right {m = c - 1} {n = shape.fanout} w (omega arith) in
+        let room = mul-le-mul_right {m = c - 1} {n = shape.fanout} w (omega arith) in
         let node : page p ≡ node_page (child_list on) (s_key_list on) n =
         inner_page (page p) here.long here.bytes w (omega arith) (omega (arith, fit.node_room)) t6.0 in
         let counted : c ≡ count on = children_counted (page p) on n node in

@@ -1,13 +1,12 @@
 -- Entries and their bytes determine each other: key and value have fixed widths, a tombstone's value is zeros, and the
 -- mark word is read bit by bit by halving it.
 use Rattle.std.proofs.Common.{◌≡◌, ℕ, zero, suc, ◌+◌, ◌*◌, ◌/◌, ◌%◌, ◌^◌, ◌<◌, ◌≤◌, Bool, true, false, eqb, List, [], ◌∷◌, ◌++◌, map, length, take, drop, replicate, Some, None, Option, sym, refl, ap, ◌∙◌, append_assoc, suc-mul, pow-suc, zero-mul, div-one, arith, lit<, take-add}
-use Rattle.std.specs.List.{flat_map, AllByRecursion as All}
+use Rattle.std.specs.List.{flat_map, AllByRecursion}
 use Rattle.std.proofs.lemmas.Nat.{shr-shr}
 use Rattle.std.proofs.lemmas.Bool.{and_parts, eqb-true, eq-eqb, ne_eqb, both_ways}
 use Rattle.std.proofs.lemmas.List.{length-take-le, length-drop, length-append, length-replicate, take_at, drop_at, drop-drop}
 use Rattle.records.specs.Kind.{Kind, Lawful, record_width}
 use Rattle.layout.specs.Pages.{ByteEntry, value_bytes, entry_bytes, mark_of, mark_word}
-use Rattle.layout.specs.Checked.{zeros}
 use Rattle.layout.specs.Holds.{ValidValue, ValidEntry}
 use Rattle.layout.specs.LeafPages.{RawEntry, raw_entries, value_unless, entry_of, good_value, good_values}
 use Rattle.layout.proofs.Checked.{zeros_are}
@@ -121,7 +120,7 @@ raw_same :
 raw_same a b g h x y p q r = cc
 
 pub raw_of_lem :
-    (kind : Kind) → Lawful kind → (es : List ByteEntry) (rest : List ℕ) → All (ValidEntry kind) es
+    (kind : Kind) → Lawful kind → (es : List ByteEntry) (rest : List ℕ) → AllByRecursion (ValidEntry kind) es
     → raw_entries kind.key_width kind.value_width (length es) (mark_word es) (flat_map (entry_bytes kind) es ++ rest)
     ≡ map (raw_of kind) es
 unfolding raw_entries mark_word
@@ -173,7 +172,7 @@ marks_small (e ∷ es) =
     omega (arith, mark_small e.value, marks_small es)
 
 pub length-entries :
-    (kind : Kind) → Lawful kind → (es : List ByteEntry) → All (ValidEntry kind) es
+    (kind : Kind) → Lawful kind → (es : List ByteEntry) → AllByRecursion (ValidEntry kind) es
     → length (flat_map (entry_bytes kind) es) ≡ length es * record_width kind
 length-entries kind law [] h = sym (zero-mul (record_width kind))
 length-entries kind law (e ∷ es) h =

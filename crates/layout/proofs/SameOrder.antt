@@ -1,7 +1,7 @@
 -- The kind's own order and the tree's test of keys agree on valid keys, and an index holds no others; so a tree is
 -- sound by the one exactly when it is by the other.
 use Rattle.std.proofs.Common.{◌≡◌, ℕ, zero, suc, Bool, List, [], ◌∷◌, sym, ◌∙◌}
-use Rattle.std.specs.List.{AllByRecursion as All}
+use Rattle.std.specs.List.{AllByRecursion}
 use Rattle.records.specs.Kind.{Kind}
 use Rattle.shape.specs.Shape.{Shape, least_children_of}
 use Rattle.tree.specs.Entries.{Low, least, from, past, High, most, until, AboveLow, BelowHigh, Ascending}
@@ -38,7 +38,7 @@ module _ (kind : Kind) (lt lt' : List ℕ → List ℕ → Bool) where
 
     ascending_other :
         (lo : Low (List ℕ)) (hi : High (List ℕ)) (es : List ByteEntry) → ValidLow lo → ValidHigh hi
-        → All (ValidEntry kind) es → Ascending lt lo hi es → Ascending lt' lo hi es
+        → AllByRecursion (ValidEntry kind) es → Ascending lt lo hi es → Ascending lt' lo hi es
     ascending_other lo hi [] l u v h = tt
     ascending_other lo hi (e ∷ es) l u v h = (
       above_other lo e.key l v.0.0 h.0,
@@ -48,7 +48,7 @@ module _ (kind : Kind) (lt lt' : List ℕ → List ℕ → Bool) where
 
     s_keys_other :
         {X : Type 0} (lo : Low (List ℕ)) (hi : High (List ℕ)) (cs : Children (List ℕ) X) → ValidLow lo → ValidHigh hi
-        → All (ValidKey kind) (s_key_list cs) → SKeysAscend lt lo hi cs → SKeysAscend lt' lo hi cs
+        → AllByRecursion (ValidKey kind) (s_key_list cs) → SKeysAscend lt lo hi cs → SKeysAscend lt' lo hi cs
     s_keys_other lo hi (one x) l u v h = tt
     s_keys_other lo hi (more x sk cs) l u v h = (
       above_other lo sk l v.0 h.0,
@@ -61,7 +61,7 @@ module _ (kind : Kind) (lt lt' : List ℕ → List ℕ → Bool) where
         {X : Type 0} (P Q : Low (List ℕ) → High (List ℕ) → X → Type 0) (V : X → Type 0)
         → ((lo : Low (List ℕ)) (hi : High (List ℕ)) (x : X) → ValidLow lo → ValidHigh hi → V x → P lo hi x → Q lo hi x)
         → (lo : Low (List ℕ)) (hi : High (List ℕ)) (cs : Children (List ℕ) X) → ValidLow lo → ValidHigh hi
-        → All (ValidKey kind) (s_key_list cs) → Each V cs → EachIn P lo hi cs → EachIn Q lo hi cs
+        → AllByRecursion (ValidKey kind) (s_key_list cs) → Each V cs → EachIn P lo hi cs → EachIn Q lo hi cs
     each_other P Q V f lo hi (one x) l u v w h = f lo hi x l u w h
     each_other P Q V f lo hi (more x sk cs) l u v w h =
         (f lo (until sk) x l v.0 w.0 h.0, each_other P Q V f (from sk) hi cs v.0 u v.1 w.1 h.1)

@@ -1,7 +1,7 @@
 -- The slots that a walk lists: a slot is listed only if it was not before, so each stands at most once in the list; and
 -- if the list is as long as there are used slots, each of these stands in it exactly once.
 use Rattle.std.proofs.Common.{◌≡◌, ℕ, zero, suc, ◌+◌, ◌<◌, ◌≤◌, true, false, cond, ◌&&◌, eqb, ltb, List, [], ◌∷◌, length, sym, refl, ap, ◌∙◌, inl, inr, arith}
-use Rattle.std.specs.List.{AllByRecursion as All}
+use Rattle.std.specs.List.{AllByRecursion}
 use Rattle.std.proofs.lemmas.Bool.{and_parts, and_from, eqb-true, eq-eqb, ne_eqb, ltb-true, lt-ltb, cases_lt, cases_eq}
 use Rattle.std.proofs.lemmas.Bool.Decides.{nat_tests}
 use Rattle.tree.specs.Children.{one, more, sum_of}
@@ -19,7 +19,7 @@ pub is_other : (x y : ℕ) → (y ≡ x → ⊥) → is x y ≡ 0
 is_other x y d = let e : eqb y x ≡ false = ne_eqb y x d in rw e
 
 abbrev pub AllBelow : ℕ → SlotChildren → Type 0
-AllBelow used cs = All (λ x. x < used) (child_list cs)
+AllBelow used cs = AllByRecursion (λ x. x < used) (child_list cs)
 
 pub listed_below :
     (used : ℕ) (listed : List ℕ) (cs : SlotChildren) → good_slots used listed cs ≡ true → AllBelow used cs

@@ -1,7 +1,7 @@
 -- A tree that stands on the pages, is valid and sound and has each used slot once is accepted by the walk: every test
 -- passes, and no slot was listed before, since each is one node's.
 use Rattle.std.proofs.Common.{◌≡◌, ℕ, zero, suc, ◌+◌, ◌<◌, ◌≤◌, true, false, List, [], map, length, Ok, sym, refl, subst, arith}
-use Rattle.std.specs.List.{AllByRecursion as All}
+use Rattle.std.specs.List.{AllByRecursion}
 use Rattle.std.proofs.ByRecursion.{All-weaker}
 use Rattle.records.specs.Kind.{Kind, Lawful}
 use Rattle.shape.specs.Shape.{Shape, least_children_of}
@@ -109,7 +109,7 @@ module _ (kind : Kind) (law : Lawful kind) (shape : Shape) (page : ℕ → List 
         at_least = omega (arith, so.2);
         at_most = omega (arith, so.2);
         slots = fresh;
-        valid = subst (λ x. All (ValidKey kind) x) keys v.1;
+        valid = subst (λ x. AllByRecursion (ValidKey kind) x) keys v.1;
         ascend = ascend_map (λ t. t.slot) (ordered_below kind) lo hi ts so.3;
       } in
       let node =

@@ -1,7 +1,7 @@
 -- What an accepted walk has found stands on the pages, is valid and sound, and each slot listed was new: by induction
 -- on the height, the slots listed being counted by one equation for any weight of slots.
-use Rattle.std.proofs.Common.{◌≡◌, ℕ, zero, suc, ◌+◌, ◌*◌, ◌<◌, ◌≤◌, true, false, List, [], map, length, Ok, sym, refl, ap, ◌∙◌, subst, mul_le_mul_right, suc-mul, arith}
-use Rattle.std.specs.List.{AllByRecursion as All}
+use Rattle.std.proofs.Common.{◌≡◌, ℕ, zero, suc, ◌+◌, ◌*◌, ◌<◌, ◌≤◌, true, false, List, [], map, length, Ok, sym, refl, ap, ◌∙◌, subst, mul-le-mul_right, suc-mul, arith}
+use Rattle.std.specs.List.{AllByRecursion}
 use Rattle.records.specs.Kind.{Kind}
 use Rattle.shape.specs.Shape.{Shape, ceiling, slot_pages_of, least_children_of}
 use Rattle.tree.specs.Entries.{Low, from, High, until}
@@ -124,7 +124,7 @@ module _ (kind : Kind) (shape : Shape) (page : ℕ → List ℕ) (used : ℕ) wh
         );
         valid = (
           good_valid kind false es dt.good,
-          subst (λ x. All (ValidKey kind) x) keys node.valid,
+          subst (λ x. AllByRecursion (ValidKey kind) x) keys node.valid,
           kw.valid,
         );
         sound = (
@@ -147,7 +147,7 @@ module _ (kind : Kind) (shape : Shape) (page : ℕ → List ℕ) (used : ℕ) wh
         → (q : ℕ) → q < node_page_of shape slot + 2 + ceiling n shape.per_page → WholePage page q
     unfolding node_page_of
     slot_pages slot n h l q u =
-        let a = mul_le_mul_right {m = suc slot} {n = used} (slot_pages_of shape) h in
+        let a = mul-le-mul_right {m = suc slot} {n = used} (slot_pages_of shape) h in
         pages q (omega (arith, suc-mul slot (slot_pages_of shape), fit.slot_room n l))
 
     pub walk_holds : (h : ℕ) → Holding h

@@ -1,5 +1,5 @@
 -- The walk reads at most W pages of each node, and there are as many nodes as used slots.
-use Rattle.std.proofs.Common.{ℕ, zero, suc, ◌*◌, ◌≤◌, Bool, List, length, mul_le_mul_right, add-mul, arith}
+use Rattle.std.proofs.Common.{ℕ, zero, suc, ◌*◌, ◌≤◌, Bool, List, length, mul-le-mul_right, add-mul, arith}
 use Rattle.records.specs.Kind.{Kind}
 use Rattle.shape.specs.Shape.{Shape, slot_pages_of, least_children_of}
 use Rattle.tree.specs.Entries.{Low, from, High, until, least, most}
@@ -55,5 +55,5 @@ walk_reads_few kind law store whole s o =
     omega (
       arith,
       walk_few kind shape _ fit h 2 least most i.root o.sound.root,
-      mul_le_mul_right {m = slot_sum (λ x. 1) h i.root} {n = i.used} (slot_pages_of shape) nodes,
+      mul-le-mul_right {m = slot_sum (λ x. 1) h i.root} {n = i.used} (slot_pages_of shape) nodes,
     )

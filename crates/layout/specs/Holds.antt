@@ -1,7 +1,7 @@
 -- What it means that the pages of a store hold an index: which bytes stand on which page, zeros too, and that the index
 -- is sound. Nothing is said of leaf pages past the filled ones, nor of slots that are not used.
 use Rattle.std.specs.Prelude.{◌≡◌, ℕ, zero, suc, ◌*◌, ◌^◌, ◌<◌, ◌≤◌, true, List, [], map, length, take, drop, Some, None, Option}
-use Rattle.std.specs.List.{AllByRecursion as All}
+use Rattle.std.specs.List.{AllByRecursion}
 use Rattle.records.specs.Kind.{Kind, record_width}
 use Rattle.stores.specs.Store.{page_at}
 use Rattle.shape.specs.Shape.{Shape, ceiling, slot_pages_of, legal}
@@ -72,9 +72,9 @@ module _ (kind : Kind) where
 
   -- every key, every s-key and every live value of the tree is valid
   abbrev pub ValidTree : (h : ℕ) → ByteTree h → Type 0
-  ValidTree zero t = All ValidEntry t.entries
+  ValidTree zero t = AllByRecursion ValidEntry t.entries
   ValidTree (suc h) t =
-      All ValidEntry t.entries × All ValidKey (s_key_list t.children) × Each (ValidTree h) t.children
+      AllByRecursion ValidEntry t.entries × AllByRecursion ValidKey (s_key_list t.children) × Each (ValidTree h) t.children
 
   pub record Holds (pages : List (List ℕ)) (s : Stored) : Type 0 where
     pub shape : legal (record_width kind) s.shape ≡ true

@@ -2,6 +2,8 @@
 // any store, takes pages apart, and names the ways in which a page can fail: the store refuses it, or it breaks a rule.
 // Its definitions say what it means that pages hold an index and how a store is inspected; `laws` has what is proved of
 // both. It uses the stores, the shape, the tree and the kinds and numbers of `records`.
+#![tactic(auto)]
+
 ghost use Rattle.std.specs.Prelude.{◌≡◌, ℕ, ◌+◌, ◌≤◌, List, [], ◌∷◌, ◌++◌, length, MatchResult};
 ghost use Rattle.stores.specs.Store.{NotThere};
 ghost use Rattle.shape.specs.Made.{chosen};
@@ -133,10 +135,10 @@ impl Header {
 // first, so that a store that is too small is found before anything is written.
 pub fn write_empty<S: PageStore>(store: &mut S, kind: u8, shape: Shape) -> Result<(), PageFault>
     ensures { MatchResult result
-        (λ _. state store.new ≡ emptied kind (chosen shape) (state store.old))
-        (λ f. (f ≡ PageFault.Store (record { page = 2; size = length (state store.old).pages }))
-        × (length (state store.old).pages ≤ 2)
-        × (state store.new ≡ state store.old)) }
+        (λ _. S.state store.new ≡ emptied kind (chosen shape) (S.state store.old))
+        (λ f. (f ≡ PageFault.Store (record { page = 2; size = length (S.state store.old).pages }))
+        × (length (S.state store.old).pages ≤ 2)
+        × (S.state store.new ≡ S.state store.old)) }
 {
     let blank = [0; 512];
     store.write(2, &blank)?;

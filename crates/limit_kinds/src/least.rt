@@ -1,7 +1,6 @@
 // Kind 202: the narrowest record there is.
 ghost use Rattle.limit_kinds.specs.Limit.{limit_kind};
-ghost use Rattle.std.proofs.Common.{arith};
-ghost use Rattle.limit_kinds.specs.Limits.{limit_lawful};
+ghost use Rattle.limit_kinds.specs.Limits.{least_lawful};
 
 use crate::is_valid;
 use records::RecordKind;
@@ -20,7 +19,7 @@ impl RecordKind for Least {
 
     ghost model = { λ _. limit_kind 202 1 1 };
 
-    ghost lawful = { λ k. limit_lawful 202 1 1 (omega arith) (omega arith) (omega arith) (omega arith) (omega arith) (omega arith) };
+    ghost lawful = { λ k. least_lawful };
 
     fn number(&self) -> u8 {
         Self::KIND_NUMBER

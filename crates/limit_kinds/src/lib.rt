@@ -1,5 +1,7 @@
 // Record kinds at the edge of the widths, for tests and for scripts: what tickets never reach, such as 64 entries on a
 // leaf page, the widest and the narrowest record. They keep the laws of every kind. It uses the record kinds.
+#![tactic(auto)]
+
 ghost use Rattle.std.specs.Prelude.{◌≡◌, ◌≤◌, length};
 ghost use Rattle.limit_kinds.specs.Limit.{starts, valid};
 

@@ -1,7 +1,6 @@
 // Kind 200: a key of 3 bytes and a value of 4: 64 entries fit on a leaf page.
 ghost use Rattle.limit_kinds.specs.Limit.{limit_kind};
-ghost use Rattle.std.proofs.Common.{arith};
-ghost use Rattle.limit_kinds.specs.Limits.{limit_lawful};
+ghost use Rattle.limit_kinds.specs.Limits.{narrow_lawful};
 
 use crate::is_valid;
 use records::RecordKind;
@@ -20,7 +19,7 @@ impl RecordKind for Narrow {
 
     ghost model = { λ _. limit_kind 200 3 4 };
 
-    ghost lawful = { λ k. limit_lawful 200 3 4 (omega arith) (omega arith) (omega arith) (omega arith) (omega arith) (omega arith) };
+    ghost lawful = { λ k. narrow_lawful };
 
     fn number(&self) -> u8 {
         Self::KIND_NUMBER

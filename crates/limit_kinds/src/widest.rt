@@ -1,7 +1,6 @@
 // Kind 201: the widest record there is.
 ghost use Rattle.limit_kinds.specs.Limit.{limit_kind};
-ghost use Rattle.std.proofs.Common.{arith};
-ghost use Rattle.limit_kinds.specs.Limits.{limit_lawful};
+ghost use Rattle.limit_kinds.specs.Limits.{widest_lawful};
 
 use crate::is_valid;
 use records::RecordKind;
@@ -20,7 +19,7 @@ impl RecordKind for Widest {
 
     ghost model = { λ _. limit_kind 201 24 64 };
 
-    ghost lawful = { λ k. limit_lawful 201 24 64 (omega arith) (omega arith) (omega arith) (omega arith) (omega arith) (omega arith) };
+    ghost lawful = { λ k. widest_lawful };
 
     fn number(&self) -> u8 {
         Self::KIND_NUMBER

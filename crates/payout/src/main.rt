@@ -2,6 +2,8 @@
 // each ticket asked for is, or what is wrong with the store. It reads, prints and counts; that a ticket is there or not
 // is the answer of `index`, and the words of a person become the one key of the ticket that they name. It uses the
 // index, the plain store and the ticket kind.
+#![tactic(auto)]
+
 mod bet;
 mod name;
 mod ticket;

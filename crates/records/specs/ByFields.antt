@@ -1,11 +1,11 @@
 -- An order by a list of fields keeps the laws of a kind's order, whatever the fields are; two keys that agree in all
 -- their fields are the same bytes.
-use Rattle.std.specs.Prelude.{◌≡◌, ℕ, ◌+◌, ◌-◌, ◌<◌, ◌≤◌, min, Bool, true, false, cond, List, [], ◌∷◌, ◌++◌, length, take, drop, sum, ◌≢◌, slice_index, refl}
+use Rattle.std.specs.Prelude.{◌≡◌, ℕ, ◌+◌, ◌-◌, ◌<◌, ◌≤◌, min, true, List, [], ◌∷◌, ◌++◌, length, take, drop, sum, ◌≢◌, slice_index, refl}
 use Rattle.std.specs.declared.cmp.Ordering.TheVariants.{Less, Equal, Greater}
 use Rattle.std.specs.declared.cmp.Ordering.{Ordering}
 use Rattle.std.proofs.Common.{sym, ap, ◌∙◌, arith}
 use Rattle.std.specs.Ordering.{ordering_then, ordering_reverse, MatchOrdering}
-use Rattle.std.specs.List.{AllByRecursion as All}
+use Rattle.std.specs.List.{AllByRecursion}
 use Rattle.std.proofs.lemmas.Bool.Decides.{nat_tests}
 use Rattle.std.proofs.lemmas.List.Sums.{sum_by-cons}
 use Rattle.std.proofs.ByRecursion.{All-take, All-drop}
@@ -73,7 +73,8 @@ fields_ended a b i e = ends (drop i a) (drop i b) (length-drop i a) (length-drop
 
 -- a front of so many bytes, from its number
 same_front :
-    (w : ℕ) (a b : List ℕ) → w ≤ length a → w ≤ length b → All (λ x. x < 256) a → All (λ x. x < 256) b
+    (w : ℕ) (a b : List ℕ) → w ≤ length a → w ≤ length b → AllByRecursion (λ x. x < 256) a
+    → AllByRecursion (λ x. x < 256) b
     → word (take w a) ≡ word (take w b) → take w a ≡ take w b
 same_front w a b wa wb ha hb e =
     sym (bytes_of_word w (take w a) (length-take-le w a wa) (All-take (λ x. x < 256) w a ha))
@@ -83,7 +84,8 @@ same_front w a b wa wb ha hb e =
 -- bytes that write the same numbers in fields of these widths, from a place on
 pub same_fields :
     (ws : List ℕ) (at : ℕ) (a b : List ℕ) → length a ≡ at + sum ws → length b ≡ at + sum ws
-    → All (λ x. x < 256) a → All (λ x. x < 256) b → fields_from at ws a ≡ fields_from at ws b → drop at a ≡ drop at b
+    → AllByRecursion (λ x. x < 256) a → AllByRecursion (λ x. x < 256) b → fields_from at ws a ≡ fields_from at ws b
+    → drop at a ≡ drop at b
 same_fields [] at a b la lb ha hb e = drop_all at a (omega arith) ∙ sym (drop_all at b (omega arith))
 same_fields (w ∷ ws) at a b la lb ha hb e =
     let first : word (take w (drop at a)) ≡ word (take w (drop at b)) = cc in
@@ -109,9 +111,9 @@ pub record ByFields (k : Kind) (fields : List ℕ → List ℕ) : Type 0 where
   pub value_least : 1 ≤ k.value_width
   pub value_most : k.value_width ≤ 64
   pub key_long : (a : List ℕ) → k.valid_key a ≡ true → length a ≡ k.key_width
-  pub key_bytes_lem : (a : List ℕ) → k.valid_key a ≡ true → bytes a ≡ true
+  pub key_bytes : (a : List ℕ) → k.valid_key a ≡ true → bytes a ≡ true
   pub value_long : (v : List ℕ) → k.valid_value v ≡ true → length v ≡ k.value_width
-  pub value_bytes_lem : (v : List ℕ) → k.valid_value v ≡ true → bytes v ≡ true
+  pub value_bytes : (v : List ℕ) → k.valid_value v ≡ true → bytes v ≡ true
   pub sorted : (a b : List ℕ) → k.order a b ≡ by_fields (fields a) (fields b)
   pub apart : (a b : List ℕ) → k.valid_key a ≡ true → k.valid_key b ≡ true → fields a ≡ fields b → a ≡ b
 
@@ -124,9 +126,9 @@ lawful_by_fields k fields t = record {
   value_least = t.value_least;
   value_most = t.value_most;
   key_long = t.key_long;
-  key_bytes_lem = t.key_bytes_lem;
+  key_bytes = t.key_bytes;
   value_long = t.value_long;
-  value_bytes_lem = t.value_bytes_lem;
+  value_bytes = t.value_bytes;
   itself = λ a. t.sorted a a ∙ fields_itself (fields a);
   same = λ a b va vb e. t.apart a b va vb (fields_same (fields a) (fields b) (sym (t.sorted a b) ∙ e));
   mirrored = λ a b. t.sorted b a ∙ fields_mirrored (fields a) (fields b) ∙ ap ordering_reverse (sym (t.sorted a b));

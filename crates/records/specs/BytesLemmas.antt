@@ -1,19 +1,19 @@
 -- Bytes and the numbers that they write: each determines the other, since every digit is below the base 256.
-use Rattle.std.specs.Prelude.{◌≡◌, ℕ, zero, suc, ◌+◌, ◌*◌, ◌/◌, ◌%◌, ◌^◌, ◌<◌, ◌≤◌, Bool, true, ◌&&◌, List, [], ◌∷◌, ◌++◌, length, take, nat_lt, slice_index, slice_index_or, refl}
+use Rattle.std.specs.Prelude.{◌≡◌, ℕ, zero, suc, ◌+◌, ◌*◌, ◌/◌, ◌%◌, ◌^◌, ◌<◌, true, List, [], ◌∷◌, ◌++◌, length, take, nat_lt, slice_index, slice_index_or, refl}
 use Rattle.std.proofs.Common.{sym, ap, ◌∙◌, pow-suc, arith, take-suc}
-use Rattle.std.specs.List.{AllByRecursion as All}
+use Rattle.std.specs.List.{AllByRecursion}
 use Rattle.std.proofs.lemmas.Int.Digits.{number_push}
 use Rattle.std.proofs.ByRecursion.{All-take, All-get_or}
 use Rattle.std.proofs.lemmas.Bool.{and_parts, and_from, ltb-true, lt-ltb}
 use Rattle.std.proofs.lemmas.List.{length-take-le, take_all, length_push, drop_more}
 use Rattle.records.specs.Bytes.{bytes, word, field, bytes_of}
 
-pub all_bytes : (xs : List ℕ) → bytes xs ≡ true → All (λ b. b < 256) xs
+pub all_bytes : (xs : List ℕ) → bytes xs ≡ true → AllByRecursion (λ b. b < 256) xs
 all_bytes [] h = tt
 all_bytes (x ∷ xs) h =
     let p = and_parts (nat_lt x 256) (bytes xs) h in (ltb-true x 256 p.0, all_bytes xs p.1)
 
-pub bytes_all : (xs : List ℕ) → All (λ b. b < 256) xs → bytes xs ≡ true
+pub bytes_all : (xs : List ℕ) → AllByRecursion (λ b. b < 256) xs → bytes xs ≡ true
 bytes_all [] h = refl
 bytes_all (x ∷ xs) h = and_from (nat_lt x 256) (bytes xs) (lt-ltb x 256 h.0) (bytes_all xs h.1)
 
@@ -34,7 +34,7 @@ word_bytes_of (suc n) x h =
     let p : 256 ^ suc n ≡ 256 ^ n * 256 = pow-suc 256 n in
     omega (arith, number_push 256 (bytes_of n (x / 256)) (x % 256), word_bytes_of n (x / 256) (omega arith))
 
-pub bytes_of_word : (n : ℕ) (xs : List ℕ) → length xs ≡ n → All (λ b. b < 256) xs → bytes_of n (word xs) ≡ xs
+pub bytes_of_word : (n : ℕ) (xs : List ℕ) → length xs ≡ n → AllByRecursion (λ b. b < 256) xs → bytes_of n (word xs) ≡ xs
 unfolding bytes_of
 bytes_of_word zero [] e h = refl
 bytes_of_word zero (x ∷ xs) e h = absurd (omega arith)

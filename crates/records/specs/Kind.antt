@@ -28,9 +28,9 @@ pub record Lawful (k : Kind) : Type 0 where
   pub value_most : k.value_width ≤ 64
   -- a valid key has the key width, in bytes, and a valid value the value width
   pub key_long : (a : List ℕ) → k.valid_key a ≡ true → length a ≡ k.key_width
-  pub key_bytes_lem : (a : List ℕ) → k.valid_key a ≡ true → bytes a ≡ true
+  pub key_bytes : (a : List ℕ) → k.valid_key a ≡ true → bytes a ≡ true
   pub value_long : (v : List ℕ) → k.valid_value v ≡ true → length v ≡ k.value_width
-  pub value_bytes_lem : (v : List ℕ) → k.valid_value v ≡ true → bytes v ≡ true
+  pub value_bytes : (v : List ℕ) → k.valid_value v ≡ true → bytes v ≡ true
   -- same means equal bytes
   pub itself : (a : List ℕ) → k.order a a ≡ Equal
   pub same : (a b : List ℕ) → k.valid_key a ≡ true → k.valid_key b ≡ true → k.order a b ≡ Equal → a ≡ b

@@ -12,7 +12,8 @@ use Rattle.records.specs.Slices.{tested_long, tested_bytes}
 
 -- a field of one byte is the same where the byte is
 same_byte :
-    (at : ℕ) (a b : List ℕ) → at < length a → at < length b → slice_index a at ≡ slice_index b at → field at 1 a ≡ field at 1 b
+    (at : ℕ) (a b : List ℕ) → at < length a → at < length b → slice_index a at ≡ slice_index b at
+    → field at 1 a ≡ field at 1 b
 same_byte at a b ha hb e = field_one at a ha ∙ e ∙ sym (field_one at b hb)
 
 apart : (a b : List ℕ) → valid_line_key a ≡ true → valid_line_key b ≡ true → line_fields a ≡ line_fields b → a ≡ b
@@ -22,7 +23,8 @@ apart a b va vb e =
     let lb = tested_long 9 b _ vb in
     let ba = all_bytes a (tested_bytes 9 a _ va) in
     let bb = all_bytes b (tested_bytes 9 b _ vb) in
-    let nth : (i : ℕ) → slice_index (line_fields a) i ≡ slice_index_or (line_fields b) i 0 = λ i. ap (λ xs. slice_index xs i) e in
+    let nth : (i : ℕ) → slice_index (line_fields a) i ≡ slice_index (line_fields b) i =
+    λ i. ap (λ xs. slice_index xs i) e in
     let ra = All-get_or (λ x. x < 256) a 4 0 (omega arith) ba in
     let rb = All-get_or (λ x. x < 256) b 4 0 (omega arith) bb in
     let course : field 0 2 a ≡ field 0 2 b = nth 0 in
@@ -45,9 +47,9 @@ line_lawful = lawful_by_fields line_kind line_fields (record {
   value_least = omega arith;
   value_most = omega arith;
   key_long = λ a h. tested_long 9 a _ h;
-  key_bytes_lem = λ a h. tested_bytes 9 a _ h;
+  key_bytes = λ a h. tested_bytes 9 a _ h;
   value_long = λ v h. tested_long 8 v _ h;
-  value_bytes_lem = λ v h. tested_bytes 8 v _ h;
+  value_bytes = λ v h. tested_bytes 8 v _ h;
   sorted = λ a b. refl;
   apart = apart;
 })

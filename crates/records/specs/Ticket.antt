@@ -1,7 +1,6 @@
 -- Kind 1, the ticket. Key, 8 bytes: serial (4), course (2), day of the year (2). Value, 10 bytes: race (1), pool (1),
 -- three runners (1 each), stake (4), state (1: 1 sold, 2 paid, 3 void).
 use Rattle.std.specs.Prelude.{ℕ, Bool, ◌&&◌, List, [], ◌∷◌, length, ◌==◌, slice_index}
-use Rattle.std.specs.declared.cmp.Ordering.{Ordering}
 use Rattle.records.specs.Bytes.{bytes, field}
 use Rattle.records.specs.Tests.{between}
 use Rattle.records.specs.Fields.{by_fields}

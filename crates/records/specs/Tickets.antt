@@ -28,9 +28,9 @@ ticket_lawful = lawful_by_fields ticket_kind ticket_fields (record {
   value_least = omega arith;
   value_most = omega arith;
   key_long = λ a h. tested_long 8 a _ h;
-  key_bytes_lem = λ a h. tested_bytes 8 a _ h;
+  key_bytes = λ a h. tested_bytes 8 a _ h;
   value_long = λ v h. tested_long 10 v _ h;
-  value_bytes_lem = λ v h. tested_bytes 10 v _ h;
+  value_bytes = λ v h. tested_bytes 10 v _ h;
   sorted = λ a b. refl;
   apart = apart;
 })

@@ -2,6 +2,8 @@
 // race track: the ticket and the pool line.
 // A kind means what its `model` says, and keeps the laws of `Lawful`; code that is generic over kinds rests on these
 // alone. The numbers in records stand highest byte first, as on pages. It uses nothing but the language.
+#![tactic(auto)]
+
 ghost use Rattle.std.specs.Prelude.{◌≡◌, ◌+◌, length};
 ghost use Rattle.records.specs.Kind.{Kind, Lawful, record_width};
 

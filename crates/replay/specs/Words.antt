@@ -1,5 +1,5 @@
 -- The numbers and bytes of a script line.
-use Rattle.std.specs.Prelude.{ℕ, ◌+◌, ◌-◌, ◌*◌, ◌^◌, min, Bool, true, false, cond, not, ◌&&◌, List, [], ◌∷◌, map, length, Some, None, Option, nat_le}
+use Rattle.std.specs.Prelude.{ℕ, ◌+◌, ◌-◌, ◌*◌, ◌^◌, min, Bool, cond, ◌&&◌, List, [], ◌∷◌, length, Some, None, Option, nat_le}
 use Rattle.records.specs.Tests.{between, every}
 
 -- '0' to '9'

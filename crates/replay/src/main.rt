@@ -1,6 +1,8 @@
 // Replay: reads a script of calls from standard input, runs them on an index and prints one answer for each, and at the
 // end, in lines that begin with #, what was accomplished. All that matters is in the layers below; this program reads,
 // prints and counts. It uses the index, the stores and the kinds.
+#![tactic(auto)]
+
 mod script;
 mod session;
 mod words;

@@ -70,6 +70,7 @@ pub(crate) enum Wrong {
     NoOffset,
     IsOpen,
     NoMemory,
+    NoBuffer,
 }
 
 impl Wrong {
@@ -88,7 +89,8 @@ impl Wrong {
             Wrong::NoOffset => "the bytes end past the page",
             Wrong::IsOpen =>
                 "the index is open, and pages are changed from outside only while it is closed",
-            Wrong::NoMemory => "there is no memory for so many bytes",
+            Wrong::NoMemory => "there is no memory for such an area",
+            Wrong::NoBuffer => "there is no memory for so many bytes",
         }
     }
 }
@@ -244,11 +246,11 @@ const FILLER: u8 = 0xa5;
 fn filled(heap: Global, length: u64) -> Result<Vec<u8>, Wrong> {
     let length = length as usize;
     let Ok(mut buffer) = Vec::with_capacity(heap, length) else {
-        return Err(Wrong::NoMemory);
+        return Err(Wrong::NoBuffer);
     };
     match buffer.resize(length, FILLER) {
         Ok(()) => Ok(buffer),
-        Err(_) => Err(Wrong::NoMemory),
+        Err(_) => Err(Wrong::NoBuffer),
     }
 }
 

@@ -1,6 +1,6 @@
 -- A row halved again and again: what lies in front of the low end passes at its border, what lies from the high end on
 -- does not at its border, and where the two meet is the place.
-use Rattle.std.proofs.Common.{◌≡◌, ℕ, suc, ◌+◌, ◌-◌, ◌*◌, ◌<◌, ◌≤◌, Bool, true, false, List, length, take, drop, sym, ap, ◌∙◌, mul_le_mul_right, suc-mul, arith}
+use Rattle.std.proofs.Common.{◌≡◌, ℕ, suc, ◌+◌, ◌-◌, ◌*◌, ◌<◌, ◌≤◌, Bool, true, false, List, length, take, drop, sym, ap, ◌∙◌, mul-le-mul_right, suc-mul, arith}
 use Rattle.std.proofs.lemmas.List.{length-take, length-drop, drop-drop}
 use Rattle.search.specs.Rows.{key_in, RowFits, Divides}
 
@@ -8,7 +8,7 @@ use Rattle.search.specs.Rows.{key_in, RowFits, Divides}
 pub key_ends : (w stride count i : ℕ) (bytes : List ℕ) → RowFits w stride count bytes → i < count
     → i * stride + w ≤ length bytes
 key_ends w stride count i bytes f l =
-    omega (arith, f.wide, f.room, mul_le_mul_right {m = suc i} {n = count} stride l, suc-mul i stride)
+    omega (arith, f.wide, f.room, mul-le-mul_right {m = suc i} {n = count} stride l, suc-mul i stride)
 
 pub key_part : (w x stride i : ℕ) (bytes : List ℕ) → x ≡ w
     → take (i * stride + x - i * stride) (drop (i * stride) bytes) ≡ key_in w stride bytes i

@@ -1,5 +1,5 @@
 -- The search of a d-tree: the first keys tell one leaf page, and that page decides for all entries.
-use Rattle.std.proofs.Common.{◌≡◌, ℕ, zero, suc, ◌+◌, ◌-◌, ◌*◌, ◌<◌, ◌≤◌, min, Bool, true, false, not, List, length, take, drop, None, Ok, Err, Option, Result, sym, refl, ap, ◌∙◌, subst, mul_le_mul_right, suc-mul, le-div_iff_mul-le, zero-mul, arith}
+use Rattle.std.proofs.Common.{◌≡◌, ℕ, zero, suc, ◌+◌, ◌-◌, ◌*◌, ◌<◌, ◌≤◌, min, Bool, true, not, List, length, take, drop, None, sym, refl, ap, ◌∙◌, subst, mul-le-mul_right, suc-mul, le-div_iff_mul-le, zero-mul, arith}
 use Rattle.std.proofs.ByRecursion.{All-take, All-drop}
 use Rattle.std.proofs.lemmas.List.{length-take, length-drop}
 use Rattle.std.proofs.lemmas.Bool.{not-true, not-false}
@@ -11,13 +11,12 @@ use Rattle.tree.proofs.Keys.{key_ordered}
 use Rattle.layout.specs.Pages.{ByteEntry, leaf_page}
 use Rattle.layout.specs.Slots.{first_key}
 use Rattle.layout.specs.LeafPages.{low_after}
-use Rattle.layout.specs.Search.{rank, PageFor}
-use Rattle.layout.specs.Holds.{ValidKey, ValidEntry}
-use Rattle.layout.specs.declared.faults.PageFault.{PageFault}
+use Rattle.layout.specs.Search.{PageFor}
+use Rattle.layout.specs.Holds.{ValidEntry}
 use Rattle.layout.proofs.Search.{search_by_first_keys}
 use Rattle.layout.proofs.DTree.{ascending_take, ascending_drop}
 use Rattle.search.specs.Rows.{Divides}
-use Rattle.search.specs.Found.{PlaceOf, FoundPlace, GoodEntries, DTreeOn, PagesUpTo}
+use Rattle.search.specs.Found.{PlaceOf, GoodEntries, DTreeOn}
 use Rattle.search.specs.declared.d_tree.Place.{Place}
 use Rattle.search.specs.declared.d_tree.Saying.TheVariants.{Nothing}
 use Rattle.search.proofs.OnHead.{head_read}
@@ -35,7 +34,7 @@ pages_before s E (suc j) some one l =
     let b : j * E < s = omega (
       arith,
       ceiling_below s E some,
-      mul_le_mul_right {m = suc j} {n = ceiling s E} E l,
+      mul-le-mul_right {m = suc j} {n = ceiling s E} E l,
       suc-mul j E,
     ) in
     rw a b

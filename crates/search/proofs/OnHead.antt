@@ -1,11 +1,11 @@
 -- The search of a head page: the keys in its row are the first keys of the leaf pages.
-use Rattle.std.proofs.Common.{◌≡◌, ℕ, ◌*◌, ◌<◌, ◌≤◌, Bool, true, false, not, List, [], ◌∷◌, length, get_or, drop, sym, refl, ap, ◌∙◌, subst}
+use Rattle.std.proofs.Common.{◌≡◌, ℕ, ◌*◌, ◌≤◌, true, not, List, length, get_or, drop, sym, ap, ◌∙◌, subst}
 use Rattle.records.specs.Kind.{Kind, Lawful}
 use Rattle.stores.specs.Store.{page_at}
 use Rattle.shape.specs.Shape.{ceiling}
 use Rattle.tree.specs.Keys.{key_below}
 use Rattle.layout.specs.Pages.{ByteEntry, head_page}
-use Rattle.layout.specs.Slots.{first_key, first_keys}
+use Rattle.layout.specs.Slots.{first_key}
 use Rattle.layout.specs.Holds.{ValidKey}
 use Rattle.layout.proofs.DTree.{HeadPageRead, head_page_read}
 use Rattle.search.specs.Rows.{is_before, key_before, Divides}

@@ -1,7 +1,7 @@
 -- The search of one leaf page: the keys in its row are those of its entries, so the place where the key divides the row
 -- is its place among the entries, and the entry at it is the only one that can have the key.
-use Rattle.std.proofs.Common.{◌≡◌, ℕ, zero, suc, ◌+◌, ◌*◌, ◌<◌, ◌≤◌, Bool, true, false, cond, ◌&&◌, ltb, List, [], ◌∷◌, map, length, get_or, take, drop, Some, None, Option, sym, refl, ap, ◌∙◌, subst, inl, inr, arith}
-use Rattle.std.specs.List.{AllByRecursion as All}
+use Rattle.std.proofs.Common.{◌≡◌, ℕ, ◌<◌, ◌≤◌, Bool, true, false, cond, ◌&&◌, ltb, List, [], ◌∷◌, map, length, get_or, take, drop, Some, None, Option, sym, refl, ap, ◌∙◌, subst, inl, inr, arith}
+use Rattle.std.specs.List.{AllByRecursion}
 use Rattle.std.specs.Str.{bytes_eq}
 use Rattle.std.proofs.ByRecursion.{All-drop}
 use Rattle.std.proofs.lemmas.Slice.Eq.{bytes_eq-Decides}
@@ -9,13 +9,12 @@ use Rattle.std.proofs.lemmas.List.{drop_all, drop-map, length-drop, get_or_past}
 use Rattle.std.proofs.lemmas.Bool.{cases_lt, cases_Bool, lt-ltb, le-ltb, both_ways}
 use Rattle.records.specs.Kind.{Kind, Lawful, record_width}
 use Rattle.tree.specs.Order.{Ordered}
-use Rattle.tree.specs.Entries.{Low, past, High, Ascending, read}
+use Rattle.tree.specs.Entries.{read}
 use Rattle.tree.specs.Keys.{key_below}
 use Rattle.tree.proofs.Keys.{key_ordered}
 use Rattle.layout.specs.Pages.{ByteEntry, value_bytes, leaf_page}
 use Rattle.layout.specs.Slots.{first_key}
 use Rattle.layout.specs.LeafPages.{RawEntry, raw_entries_on, marks_on, value_unless, low_after}
-use Rattle.layout.specs.Search.{rank}
 use Rattle.layout.specs.Holds.{ValidKey, ValidEntry}
 use Rattle.layout.proofs.RawEntries.{raw_at, raw_drop, is_tombstone, raw_of}
 use Rattle.layout.proofs.LeafPage.{LeafPageRead, leaf_page_read}
@@ -69,7 +68,7 @@ module _ (kind : Kind) (law : Lawful kind) (page : List ℕ) (es : List ByteEntr
     key_valid i l =
         let f = at_place i l in
         let v = All-drop (ValidEntry kind) i es good.valid in
-        let u : All (ValidEntry kind) (f.0 ∷ f.1) = subst (λ xs. All (ValidEntry kind) xs) f.2 v in
+        let u : AllByRecursion (ValidEntry kind) (f.0 ∷ f.1) = subst (λ xs. AllByRecursion (ValidEntry kind) xs) f.2 v in
         ap (λ xs. kind.valid_key (first_key xs)) f.2 ∙ u.0.0
 
     abbrev row : List ℕ

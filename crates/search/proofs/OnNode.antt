@@ -1,10 +1,10 @@
 -- The s-keys of a node ascend, so the number of those at the key or below it is the place of the child that the key
 -- belongs to.
 use Rattle.std.proofs.Common.{◌≡◌, ℕ, zero, suc, ◌+◌, ◌*◌, ◌<◌, ◌≤◌, Bool, true, false, not, List, length, get_or, take, drop, sym, refl, ap, ◌∙◌, subst, inl, inr, suc-mul, zero-mul, arith}
-use Rattle.std.specs.List.{AllByRecursion as All}
+use Rattle.std.specs.List.{AllByRecursion}
 use Rattle.std.proofs.lemmas.List.{drop-drop}
 use Rattle.std.proofs.lemmas.Bool.{not-true, not-false, cases_Bool, both_ways}
-use Rattle.records.specs.Bytes.{word, field}
+use Rattle.records.specs.Bytes.{word}
 use Rattle.records.specs.Kind.{Kind, Lawful}
 use Rattle.tree.specs.Order.{Ordered, ordering_of, pick}
 use Rattle.tree.specs.Entries.{Low, past, High}
@@ -12,10 +12,10 @@ use Rattle.tree.specs.Children.{child_at, place_of, SKeysAscend}
 use Rattle.tree.specs.Keys.{key_below}
 use Rattle.tree.proofs.Keys.{key_ordered}
 use Rattle.layout.specs.Slots.{s_key_list}
-use Rattle.layout.specs.Nodes.{SlotChildren, children_from}
+use Rattle.layout.specs.Nodes.{children_from}
 use Rattle.layout.specs.Holds.{ValidKey}
 use Rattle.layout.proofs.Numbers.{two_at}
-use Rattle.search.specs.Rows.{key_in, is_before, key_before, Divides}
+use Rattle.search.specs.Rows.{key_in, key_before, Divides}
 use Rattle.search.specs.Found.{BelongsTo}
 use Rattle.search.proofs.Divided.{divides_same, upto_by_tree}
 
@@ -100,7 +100,8 @@ child_slot w (suc n) (suc r) slots keys l =
     ∙ ap (λ xs. word (take 2 xs)) (drop-drop (2 * r) 2 slots) ∙ ap (λ m. word (take 2 (drop m slots))) (sym a)
 
 s_key_valid :
-    (kind : Kind) (w n i : ℕ) (slots keys : List ℕ) → All (ValidKey kind) (s_key_list (children_from w n slots keys))
+    (kind : Kind) (w n i : ℕ) (slots keys : List ℕ)
+    → AllByRecursion (ValidKey kind) (s_key_list (children_from w n slots keys))
     → i < n → ValidKey kind (key_in w w keys i)
 unfolding children_from
 s_key_valid kind w zero i slots keys v l = absurd (omega arith)

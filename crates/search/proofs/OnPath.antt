@@ -1,15 +1,14 @@
 -- The search from a node down: each step ends it or goes on to the child that says what the node says; and from the
 -- root it says what the index means.
-use Rattle.std.proofs.Common.{◌≡◌, ℕ, zero, suc, ◌-◌, ◌*◌, ◌<◌, ◌≤◌, true, List, take, Some, None, Ok, Err, Option, Result, sym, refl, ap, ◌∙◌, subst, arith}
+use Rattle.std.proofs.Common.{◌≡◌, ℕ, zero, suc, ◌-◌, ◌*◌, ◌<◌, ◌≤◌, true, List, Some, None, Ok, Option, Result, sym, ap, ◌∙◌, subst, arith}
 use Rattle.records.specs.Kind.{Kind, Lawful, record_width}
-use Rattle.records.specs.Kind as kinds
 use Rattle.stores.specs.Store.{StoreState, page_at}
 use Rattle.stores.specs.Store as stores
 use Rattle.shape.specs.Shape.{Shape, legal}
 use Rattle.tree.specs.Tree.{find, find_in}
 use Rattle.tree.specs.Keys.{key_below}
 use Rattle.layout.specs.Pages.{Header}
-use Rattle.layout.specs.Holds.{ByteTree, Stored, header_for, ValidKey, Holds}
+use Rattle.layout.specs.Holds.{ByteTree, Stored, header_for, Holds}
 use Rattle.layout.specs.Descent.{Branching}
 use Rattle.layout.specs.declared.faults.PageFault.{PageFault}
 use Rattle.layout.proofs.Fits.{fits}

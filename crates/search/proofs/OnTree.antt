@@ -1,26 +1,25 @@
 -- One node of a tree that stands on its pages: its counts pass the tests, its d-tree is searched as it stands, and
 -- where its entries say nothing of a key, the child that the key belongs to says what the node says.
-use Rattle.std.proofs.Common.{◌≡◌, ℕ, zero, suc, ◌+◌, ◌-◌, ◌*◌, ◌<◌, ◌≤◌, Bool, true, false, cond, ◌&&◌, eqb, leb, List, [], length, drop, is_ok, IfOk, Some, None, Ok, Err, Option, Result, sym, refl, ap, ◌∙◌, subst, arith}
+use Rattle.std.proofs.Common.{◌≡◌, ℕ, zero, suc, ◌+◌, ◌-◌, ◌*◌, ◌≤◌, true, false, cond, ◌&&◌, eqb, leb, List, length, drop, IfOk, None, Ok, Err, Option, Result, sym, ap, ◌∙◌, subst, arith}
 use Rattle.std.proofs.lemmas.List.{drop-drop}
 use Rattle.std.proofs.lemmas.Bool.{and_from, eq-eqb, ne_eqb, le-leb}
 use Rattle.records.specs.Kind.{Kind, Lawful, record_width}
 use Rattle.stores.specs.Store.{page_at}
-use Rattle.shape.specs.Shape.{Shape, ceiling, slot_pages_of, legal}
-use Rattle.tree.specs.Entries.{read}
-use Rattle.tree.specs.Children.{child_at, place_of, ask_child}
+use Rattle.shape.specs.Shape.{Shape, legal}
+use Rattle.tree.specs.Children.{ask_child}
 use Rattle.tree.specs.Tree.{find}
 use Rattle.tree.specs.Keys.{key_below}
 use Rattle.layout.specs.Pages.{node_page}
-use Rattle.layout.specs.Slots.{node_page_of, head_page_of}
+use Rattle.layout.specs.Slots.{node_page_of}
 use Rattle.layout.specs.Nodes.{SlotChildren, child_count_on, entry_count_on, children_from}
-use Rattle.layout.specs.Holds.{ByteTree, ValidKey, SlotHolds, NodesStand}
-use Rattle.layout.specs.Descent.{Branching, ChildFor, children_in}
+use Rattle.layout.specs.Holds.{ByteTree, ValidKey, SlotHolds}
+use Rattle.layout.specs.Descent.{Branching, children_in}
 use Rattle.layout.specs.declared.faults.PageFault.{PageFault}
 use Rattle.layout.specs.declared.parts.NodeParts.{NodeParts}
 use Rattle.layout.proofs.Fits.{Fits, fits}
 use Rattle.layout.proofs.Descent.{node_read, leaf_children, read_children, child_for, child_branching}
 use Rattle.search.specs.Found.{said_by, PlaceOf, GoodEntries, DTreeOn, BelongsTo}
-use Rattle.search.specs.Nodes.{may_have, NodeOf, GoesOn, SteppedDown, ChildSays, StepAt}
+use Rattle.search.specs.Nodes.{may_have, NodeOf, GoesOn, SteppedDown, StepAt}
 use Rattle.search.specs.declared.d_tree.Place.{Place}
 use Rattle.search.specs.declared.d_tree.Saying.TheVariants.{Nothing, Tombstone, Live}
 use Rattle.search.specs.declared.descent.Step.{Step}

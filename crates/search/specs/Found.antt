@@ -1,6 +1,6 @@
 -- What a search finds in the entries of a node, and in a tree.
-use Rattle.std.specs.Prelude.{◌≡◌, ℕ, ◌+◌, ◌*◌, ◌/◌, ◌%◌, ◌^◌, ◌<◌, Bool, cond, not, ◌&&◌, List, length, take, drop, Some, None, Ok, Err, Option, Result, ◌==◌, nat_lt}
-use Rattle.std.specs.List.{AllByRecursion as All}
+use Rattle.std.specs.Prelude.{◌≡◌, ℕ, ◌+◌, ◌*◌, ◌/◌, ◌%◌, ◌^◌, ◌<◌, cond, not, ◌&&◌, List, length, take, drop, Some, None, Ok, Err, Option, Result, ◌==◌, nat_lt}
+use Rattle.std.specs.List.{AllByRecursion}
 use Rattle.std.specs.Str.{bytes_eq}
 use Rattle.records.specs.Kind.{Kind}
 use Rattle.shape.specs.Shape.{ceiling}
@@ -50,7 +50,7 @@ FoundPlace kind key es (Err fault) = ⊥
 
 -- the entries are valid and ascend
 pub record GoodEntries (kind : Kind) (es : List ByteEntry) : Type 0 where
-  pub valid : All (ValidEntry kind) es
+  pub valid : AllByRecursion (ValidEntry kind) es
   pub low : Low (List ℕ)
   pub high : High (List ℕ)
   pub ascending : Ascending (key_below kind) low high es
@@ -72,7 +72,8 @@ PagesUpTo kind per_page key es (Err fault) = ⊥
 -- A key belongs to the child in this slot, if the s-keys are valid and ascend.
 abbrev pub BelongsTo : Kind → (key : List ℕ) → SlotChildren → (slot : ℕ) → Type 0
 BelongsTo kind key cs slot =
-    (lo : Low (List ℕ)) (hi : High (List ℕ)) → SKeysAscend (key_below kind) lo hi cs → All (ValidKey kind) (s_key_list cs)
+    (lo : Low (List ℕ)) (hi : High (List ℕ)) → SKeysAscend (key_below kind) lo hi cs
+    → AllByRecursion (ValidKey kind) (s_key_list cs)
     → ValidKey kind key → slot ≡ child_at (place_of (key_below kind) key cs) cs
 
 -- the value found, which stands in the first v bytes

@@ -44,11 +44,11 @@ pub(crate) struct Place {
 
 // The value of entry i in a row of entries.
 fn value_in<'a, K: RecordKind>(kind: &K, row: KeyRow<'a>, i: usize) -> &'a [u8]
-    requires fits { RowFits (record_width (model kind.now)) row.stride row.count row.bytes.now }
+    requires fits { RowFits (record_width (K.model kind.now)) row.stride row.count row.bytes.now }
     requires there { i < row.count }
-    ensures value { result.now ≡ value_in (model kind.now) row.entry.stride
+    ensures value { result.now ≡ value_in (K.model kind.now) row.entry.stride
         row.entry.bytes.now i }
-    ensures long { length result.now ≡ (model kind.now).value_width }
+    ensures long { length result.now ≡ (K.model kind.now).value_width }
 {
     let KeyRow { bytes, stride, .. } = row;
     let at = i * stride + kind.key_width();
@@ -69,10 +69,10 @@ fn copied(value: &[u8]) -> ValueBytes
 
 // What entry i of a row says, if there is one and it has the key.
 fn saying_at<K: RecordKind>(kind: &K, marks: u64, row: KeyRow<'_>, i: usize, key: &[u8]) -> Saying
-    requires fits { RowFits (record_width (model kind.now)) row.stride row.count row.bytes.now }
+    requires fits { RowFits (record_width (K.model kind.now)) row.stride row.count row.bytes.now }
     requires few { row.count ≤ 64 }
-    ensures { (older : Option (List ℕ)) → said_by (model kind.now).value_width result older
-        ≡ said_at (model kind.now) marks row.entry.stride row.entry.count row.entry.bytes.now i
+    ensures { (older : Option (List ℕ)) → said_by (K.model kind.now).value_width result older
+        ≡ said_at (K.model kind.now) marks row.entry.stride row.entry.count row.entry.bytes.now i
         key.now older }
 {
     if i >= row.count {
@@ -97,14 +97,14 @@ fn search_leaf_page<S: PageStore, K: RecordKind>(
     key: &[u8],
 ) -> Result<Place, PageFault>
     requires few { t ≤ 64 }
-    requires room { 9 + t * record_width (model kind.now) ≤ 512 }
-    requires key { length key.now ≡ (model kind.now).key_width }
-    ensures looked { Looked (state store.old) 1 (state store.new) }
+    requires room { 9 + t * record_width (K.model kind.now) ≤ 512 }
+    requires key { length key.now ≡ (K.model kind.now).key_width }
+    ensures looked { Looked (S.state store.old) 1 (S.state store.new) }
     ensures within { IfOk result (λ place. place.below ≤ t) }
-    ensures answer { (es : List ByteEntry) → page_at (state store.old).pages p
-        ≡ leaf_page (model kind.now) es → length es ≡ t → GoodEntries (model kind.now) es
-        → ValidKey (model kind.now) key.now
-        → FoundPlace (model kind.now) key.now es result }
+    ensures answer { (es : List ByteEntry) → page_at (S.state store.old).pages p
+        ≡ leaf_page (K.model kind.now) es → length es ≡ t → GoodEntries (K.model kind.now) es
+        → ValidKey (K.model kind.now) key.now
+        → FoundPlace (K.model kind.now) key.now es result }
 {
     let mut page = [0; 512];
     store.read(p, &mut page)?;
@@ -135,13 +135,13 @@ fn pages_up_to<S: PageStore, K: RecordKind>(
     key: &[u8],
 ) -> Result<usize, PageFault>
     requires few { filled ≤ 16 }
-    requires key { length key.now ≡ (model kind.now).key_width }
-    ensures looked { Looked (state store.old) 1 (state store.new) }
+    requires key { length key.now ≡ (K.model kind.now).key_width }
+    ensures looked { Looked (S.state store.old) 1 (S.state store.new) }
     ensures within { IfOk result (λ n. n ≤ filled) }
     ensures answer { (per_page : ℕ) (es : List ByteEntry) → 1 ≤ per_page → filled ≡ ceiling (length es) per_page
-        → DTreeOn (model kind.now) per_page (page_at (state store.old).pages) p es
-        → ValidKey (model kind.now) key.now
-        → PagesUpTo (model kind.now) per_page key.now es result }
+        → DTreeOn (K.model kind.now) per_page (page_at (S.state store.old).pages) p es
+        → ValidKey (K.model kind.now) key.now
+        → PagesUpTo (K.model kind.now) per_page key.now es result }
 {
     let mut head = [0; 512];
     store.read(p, &mut head)?;
@@ -171,15 +171,15 @@ pub(crate) fn search_d_tree<S: PageStore, K: RecordKind>(
 ) -> Result<Place, PageFault>
     requires some { 1 ≤ per_page }
     requires few { per_page ≤ 64 }
-    requires fits { per_page * record_width (model kind.now) ≤ 503 }
+    requires fits { per_page * record_width (K.model kind.now) ≤ 503 }
     requires entries { (s ≤ 256) × (ceiling s per_page ≤ 16) }
     requires page { p ≤ 65536 }
-    requires key { length key.now ≡ (model kind.now).key_width }
-    ensures looked { Looked (state store.old) 2 (state store.new) }
+    requires key { length key.now ≡ (K.model kind.now).key_width }
+    ensures looked { Looked (S.state store.old) 2 (S.state store.new) }
     ensures answer { (es : List ByteEntry)
-        → DTreeOn (model kind.now) per_page (page_at (state store.old).pages) p es
-        → length es ≡ s → ValidKey (model kind.now) key.now
-        → FoundPlace (model kind.now) key.now es result }
+        → DTreeOn (K.model kind.now) per_page (page_at (S.state store.old).pages) p es
+        → length es ≡ s → ValidKey (K.model kind.now) key.now
+        → FoundPlace (K.model kind.now) key.now es result }
 {
     let filled = (s + (per_page - 1)) / per_page;
     let pages = pages_up_to(store, kind, filled, p, key)?;

@@ -1,6 +1,6 @@
 // The way of a key from the root down: the first entry met for it decides.
 ghost use Rattle.std.specs.Prelude.{◌≡◌, ℕ, suc, ◌-◌, ◌*◌, ◌<◌, ◌≤◌, true, List, length, drop, is_ok, IfOk, Result};
-ghost use Rattle.std.specs.List.{AllByRecursion as All};
+ghost use Rattle.std.specs.List.{AllByRecursion};
 ghost use Rattle.records.specs.Kind.{record_width};
 ghost use Rattle.stores.specs.Store.{page_at};
 ghost use Rattle.stores.specs.Looked.{Looked};
@@ -45,9 +45,9 @@ pub(crate) enum Step {
 fn child_for<K: RecordKind>(kind: &K, node: NodeParts<'_>, key: &[u8]) -> usize
     requires children { (1 ≤ node.children) × (node.children ≤ 8) }
     requires rest { length node.rest.now ≡ 509 }
-    requires key { length key.now ≡ (model kind.now).key_width }
-    ensures { BelongsTo (model kind.now) key.now (children_from
-        (model kind.now).key_width (node.entry.children - 1) node.entry.rest.now
+    requires key { length key.now ≡ (K.model kind.now).key_width }
+    ensures { BelongsTo (K.model kind.now) key.now (children_from
+        (K.model kind.now).key_width (node.entry.children - 1) node.entry.rest.now
         (drop (2 * node.entry.children) node.entry.rest.now)) result }
 {
     let NodeParts { children, rest, .. } = node;
@@ -110,9 +110,9 @@ fn step_down<K: RecordKind>(
 ) -> Result<Step, PageFault>
     requires children { (1 ≤ node.children) × (node.children ≤ 8) }
     requires rest { length node.rest.now ≡ 509 }
-    requires key { length key.now ≡ (model kind.now).key_width }
-    ensures { SteppedDown used (BelongsTo (model kind.now) key.now (children_from
-        (model kind.now).key_width (node.entry.children - 1) node.entry.rest.now
+    requires key { length key.now ≡ (K.model kind.now).key_width }
+    ensures { SteppedDown used (BelongsTo (K.model kind.now) key.now (children_from
+        (K.model kind.now).key_width (node.entry.children - 1) node.entry.rest.now
         (drop (2 * node.entry.children) node.entry.rest.now))) result }
 {
     let child = child_for(kind, node, key);
@@ -134,16 +134,16 @@ fn search_node<S: PageStore, K: RecordKind>(
     slot: usize,
     key: &[u8],
 ) -> Result<Step, PageFault>
-    requires fits { (chosen ground.shape).per_page * record_width (model kind.now) ≤ 503 }
+    requires fits { (chosen ground.shape).per_page * record_width (K.model kind.now) ≤ 503 }
     requires few { (ground.used ≤ 1024) × (slot < ground.used) }
-    requires key { length key.now ≡ (model kind.now).key_width }
-    ensures looked { Looked (state store.old) 3 (state store.new) }
+    requires key { length key.now ≡ (K.model kind.now).key_width }
+    ensures looked { Looked (S.state store.old) 3 (S.state store.new) }
     ensures child { IfOk result (GoesOn ground.used h) }
     ensures answer { (t : ByteTree h)
-        → legal (record_width (model kind.now)) (chosen ground.shape) ≡ true
-        → Branching (model kind.now) (chosen ground.shape) (page_at (state store.old).pages)
-        ground.used h t → t.slot ≡ slot → ValidKey (model kind.now) key.now
-        → StepAt (model kind.now) (chosen ground.shape) (page_at (state store.old).pages)
+        → legal (record_width (K.model kind.now)) (chosen ground.shape) ≡ true
+        → Branching (K.model kind.now) (chosen ground.shape) (page_at (S.state store.old).pages)
+        ground.used h t → t.slot ≡ slot → ValidKey (K.model kind.now) key.now
+        → StepAt (K.model kind.now) (chosen ground.shape) (page_at (S.state store.old).pages)
         ground.used key.now h t result }
 {
     let Ground { shape, used } = ground;
@@ -174,16 +174,16 @@ fn find_from<S: PageStore, K: RecordKind>(
     slot: usize,
     key: &[u8],
 ) -> Result<Option<ValueBytes>, PageFault>
-    requires fits { (chosen ground.shape).per_page * record_width (model kind.now) ≤ 503 }
+    requires fits { (chosen ground.shape).per_page * record_width (K.model kind.now) ≤ 503 }
     requires few { (ground.used ≤ 1024) × (slot < ground.used) }
-    requires key { length key.now ≡ (model kind.now).key_width }
-    ensures looked { Looked (state store.old) (3 * suc h) (state store.new) }
+    requires key { length key.now ≡ (K.model kind.now).key_width }
+    ensures looked { Looked (S.state store.old) (3 * suc h) (S.state store.new) }
     ensures answer { (t : ByteTree h)
-        → legal (record_width (model kind.now)) (chosen ground.shape) ≡ true
-        → Branching (model kind.now) (chosen ground.shape) (page_at (state store.old).pages)
-        ground.used h t → t.slot ≡ slot → ValidKey (model kind.now) key.now
-        → value_found (model kind.now).value_width result
-        ≡ Result.Ok (find (key_below (model kind.now)) h key.now t) }
+        → legal (record_width (K.model kind.now)) (chosen ground.shape) ≡ true
+        → Branching (K.model kind.now) (chosen ground.shape) (page_at (S.state store.old).pages)
+        ground.used h t → t.slot ≡ slot → ValidKey (K.model kind.now) key.now
+        → value_found (K.model kind.now).value_width result
+        ≡ Result.Ok (find (key_below (K.model kind.now)) h key.now t) }
 {
     let step = search_node(store, kind, ground, h, slot, key)?;
     match step {
@@ -203,12 +203,12 @@ pub fn find_value<S: PageStore, K: RecordKind>(
     header: Header,
     key: &[u8],
 ) -> Result<Option<ValueBytes>, PageFault>
-    ensures looked { Looked (state store.old) (3 * (header_of header).levels)
-        (state store.new) }
-    ensures answer { (s : Stored) → Holds (model kind.now) (state store.old).pages s
-        → header_of header ≡ header_for s → ValidKey (model kind.now) key.now
-        → value_found (model kind.now).value_width result
-        ≡ Result.Ok (find_in (key_below (model kind.now)) s.index key.now) }
+    ensures looked { Looked (S.state store.old) (3 * (header_of header).levels)
+        (S.state store.new) }
+    ensures answer { (s : Stored) → Holds (K.model kind.now) (S.state store.old).pages s
+        → header_of header ≡ header_for s → ValidKey (K.model kind.now) key.now
+        → value_found (K.model kind.now).value_width result
+        ≡ Result.Ok (find_in (key_below (K.model kind.now)) s.index key.now) }
 {
     let shape = header.shape();
     // no index that was formatted or opened for this kind has such a header

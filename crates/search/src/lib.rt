@@ -2,6 +2,8 @@
 // on pages that hold an index it says of a key what the index means, and reads at most three pages of each level. It
 // asks nothing of the bytes on a page: what is read is tested before it is used, and a broken rule is told with its
 // page. It uses the layout, the stores and the record kinds.
+#![tactic(auto)]
+
 mod d_tree;
 mod descent;
 mod rows;

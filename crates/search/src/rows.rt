@@ -15,11 +15,11 @@ pub(crate) struct KeyRow<'a> {
 
 // Key i of a row.
 pub(crate) fn key_in<'a, K: RecordKind>(kind: &K, row: KeyRow<'a>, i: usize) -> &'a [u8]
-    requires fits { RowFits (model kind.now).key_width row.stride row.count row.bytes.now }
+    requires fits { RowFits (K.model kind.now).key_width row.stride row.count row.bytes.now }
     requires there { i < row.count }
-    ensures key { result.now ≡ key_in (model kind.now).key_width row.entry.stride
+    ensures key { result.now ≡ key_in (K.model kind.now).key_width row.entry.stride
         row.entry.bytes.now i }
-    ensures long { length result.now ≡ (model kind.now).key_width }
+    ensures long { length result.now ≡ (K.model kind.now).key_width }
 {
     let KeyRow { bytes, stride, .. } = row;
     let at = i * stride;
@@ -29,9 +29,9 @@ pub(crate) fn key_in<'a, K: RecordKind>(kind: &K, row: KeyRow<'a>, i: usize) -> 
 
 // Whether a key comes before the one sought: it is below it, or the same where `same` says so.
 fn comes_before<K: RecordKind>(kind: &K, key: &[u8], sought: &[u8], same: bool) -> bool
-    requires left { length key.now ≡ (model kind.now).key_width }
-    requires right { length sought.now ≡ (model kind.now).key_width }
-    ensures { result ≡ is_before same ((model kind.now).order key.now sought.now) }
+    requires left { length key.now ≡ (K.model kind.now).key_width }
+    requires right { length sought.now ≡ (K.model kind.now).key_width }
+    ensures { result ≡ is_before same ((K.model kind.now).order key.now sought.now) }
 {
     match kind.compare(key, sought) {
         Ordering::Less => true,
@@ -47,9 +47,9 @@ pub(crate) fn count_before<K: RecordKind>(
     sought: &[u8],
     same: bool,
 ) -> usize
-    requires fits { RowFits (model kind.now).key_width row.stride row.count row.bytes.now }
-    requires key { length sought.now ≡ (model kind.now).key_width }
-    ensures { Divides (key_before (model kind.now) same sought.now row.entry.stride
+    requires fits { RowFits (K.model kind.now).key_width row.stride row.count row.bytes.now }
+    requires key { length sought.now ≡ (K.model kind.now).key_width }
+    ensures { Divides (key_before (K.model kind.now) same sought.now row.entry.stride
         row.entry.bytes.now) row.entry.count result }
 {
     let mut low = 0;

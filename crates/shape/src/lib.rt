@@ -1,6 +1,8 @@
 // The shape of an index: how many children and entries a node has, how many entries a leaf page, and every size that
 // follows from these. A `Shape` is made only within the limits, so whoever holds one divides and adds without a test.
 // It uses nothing but the language.
+#![tactic(auto)]
+
 ghost use Rattle.std.specs.Prelude.{◌≡◌, ◌+◌, ◌*◌, ◌≤◌};
 ghost use Rattle.shape.specs.Shape.{
   ceiling,

@@ -1,7 +1,7 @@
 -- Pages read one after the other: the touches add up.
-use Rattle.std.proofs.Common.{◌≡◌, ℕ, ◌+◌, ◌%◌, ◌^◌, ◌<◌, ◌≤◌, sym, refl, ap, ◌∙◌, arith}
+use Rattle.std.proofs.Common.{◌≡◌, ℕ, ◌+◌, ◌^◌, ◌<◌, ◌≤◌, refl, ap, ◌∙◌, arith}
 use Rattle.stores.specs.Store.{StoreState, touched_once}
-use Rattle.stores.specs.Looked.{Within, Looked}
+use Rattle.stores.specs.Looked.{Looked}
 
 pub looked_none : (s : StoreState) (most : ℕ) → s.count < 2 ^ 64 → Looked s most s
 looked_none s most small = record { pages = refl; touches = (0, omega arith, omega arith) }

@@ -1,9 +1,9 @@
 -- A page written into the spare place: it is read from there, and every other page from where it was, since no page
 -- lies in the spare place.
-use Rattle.std.proofs.Common.{◌≡◌, ℕ, ◌+◌, ◌-◌, ◌*◌, ◌/◌, ◌<◌, ◌≤◌, min, ltb, List, [], map, length, get_or, set, sym, refl, ap, ◌∙◌, ⊎_elim, arith}
+use Rattle.std.proofs.Common.{◌≡◌, ℕ, ◌+◌, ◌*◌, ◌/◌, ◌<◌, ◌≤◌, min, ltb, List, [], length, get_or, set, sym, ap, ◌∙◌, ⊎_elim, arith}
 use Rattle.std.proofs.lemmas.List.{ext_get_or, same_lists, length-set, get_or-set_same, get_or-set_other}
 use Rattle.std.proofs.lemmas.Bool.{cases_eq, cond_both, ltb-true, ltb-false}
-use Rattle.stores.specs.Places.{low_bytes, place_at, contents, length-contents, get_d_contents}
+use Rattle.stores.specs.Places.{low_bytes, place_at, contents, length-contents, get_or-contents}
 use Rattle.stores.specs.Shifting.{
   Inside,
   held,
@@ -11,7 +11,7 @@ use Rattle.stores.specs.Shifting.{
   held_room,
   shifting_pages,
   length-shifting,
-  get_d_shifting,
+  get_or-shifting,
 }
 use Rattle.stores.proofs.Writing.{written, low_same, place_same, place_other, length-written}
 
@@ -35,14 +35,14 @@ shifted area table size spare p b h long few spared inside len small =
     let k₁ : k < held size (length after) = omega (arith, e₁) in
     let k₂ : k < held size (length area) = omega (arith, e₂, e₃) in
     let r₂ = held_room k size (length area) k₂ in
-    get_d_shifting after moved size k d k₁ ∙ ⊎_elim
+    get_or-shifting after moved size k d k₁ ∙ ⊎_elim
     (λ e. rw e (ap (λ j. low_bytes (place_at after j)) (get_or-set_same table p spare 0 (omega (arith, room.0)))
     ∙ ap low_bytes (place_same spare area b len fits) ∙ low_same b small
     ∙ sym (get_or-set_same _ p b d (omega (arith, e₂)))))
     (λ ne. ap (λ j. low_bytes (place_at after j)) (get_or-set_other table p k spare 0 ne)
     ∙ ap low_bytes (place_other spare (get_or table k 0) area b len fits (omega (arith, r₂.2, (inside k r₂.0).0))
     (inside k r₂.0).1)
-    ∙ sym (get_or-set_other _ p k b d ne ∙ get_d_shifting area table size k d k₂))
+    ∙ sym (get_or-set_other _ p k b d ne ∙ get_or-shifting area table size k d k₂))
     (cases_eq k p))
 
 -- a new store: page p in place p
@@ -60,6 +60,6 @@ fresh_pages area table size is own =
     ext_get_or [] _ _ (e₁ ∙ e₃ ∙ sym e₂) (λ k w.
     let lt : k < held size (length area) = omega arith in
     let room = held_room k size (length area) lt in
-    get_d_shifting area table size k [] lt
+    get_or-shifting area table size k [] lt
     ∙ ap (λ j. low_bytes (place_at area j)) (own k room.0)
-    ∙ sym (get_d_contents size k area (omega arith)))
+    ∙ sym (get_or-contents size k area (omega arith)))

@@ -1,5 +1,5 @@
 -- The plain store: page p lies in place p of the area, up to 65,535 pages.
-use Rattle.std.specs.Prelude.{◌≡◌, ℕ, ◌%◌, ◌^◌, List}
+use Rattle.std.specs.Prelude.{ℕ, ◌%◌, ◌^◌, List}
 use Rattle.std.proofs.Common.{arith}
 use Rattle.stores.specs.Store.{StoreState, Lawful}
 use Rattle.stores.specs.Places.{places, contents, length-contents, contents_small, contents_whole}

@@ -1,11 +1,11 @@
 -- The shifting store: a table says in which place each page lies, and one place more is spare.
 use Rattle.std.specs.Prelude.{◌≡◌, ℕ, zero, suc, ◌+◌, ◌-◌, ◌*◌, ◌/◌, ◌%◌, ◌^◌, ◌<◌, ◌≤◌, min, Bool, true, false, cond, List, [], ◌∷◌, map, length, ◌≢◌, nat_lt, slice_index, slice_index_or, refl}
 use Rattle.std.proofs.Common.{ap, ◌∙◌, arith}
-use Rattle.std.specs.List.{range_with_len, AllByRecursion as All}
+use Rattle.std.specs.List.{range_with_len, AllByRecursion}
 use Rattle.std.proofs.lemmas.Bool.{ltb-true, cond_both}
 use Rattle.std.proofs.lemmas.List.FromFn.{length-map-range_with_len, get_or-map-range_with_len}
 use Rattle.std.proofs.lemmas.List.{length-map}
-use Rattle.stores.specs.Store.{StoreState, Lawful, page_at}
+use Rattle.stores.specs.Store.{StoreState, Lawful}
 use Rattle.stores.specs.Places.{place_at, low_bytes, low_small, length-place_at}
 
 -- the pages of an area of so many bytes: one fewer than its places, at most 1,024
@@ -46,10 +46,10 @@ pub length-shifting :
     (area table : List ℕ) (size : ℕ) → length (shifting_pages area table size) ≡ held size (length area)
 length-shifting area table size = length-map-range_with_len (λ p. low_bytes (place_at area (slice_index table p))) 0 _
 
-pub get_d_shifting :
+pub get_or-shifting :
     (area table : List ℕ) (size p : ℕ) (d : List ℕ) → p < held size (length area)
     → slice_index_or (shifting_pages area table size) p d ≡ low_bytes (place_at area (slice_index table p))
-get_d_shifting area table size p d h =
+get_or-shifting area table size p d h =
     get_or-map-range_with_len (λ p. low_bytes (place_at area (slice_index table p))) 0 _ p p d h (omega arith)
 
 pub held_le : (size bytes : ℕ) → held size bytes ≤ size
@@ -57,7 +57,7 @@ held_le size bytes =
     cond_both (nat_lt size (bytes / 512)) size 0 (λ n. n ≤ size) (λ _. omega arith) (λ _. omega arith)
 
 map-small : {A : Type 0} (f : A → List ℕ) (xs : List A) (p : ℕ)
-    → All (λ b. b < 256) (slice_index_or (map (λ x. low_bytes (f x)) xs) p [])
+    → AllByRecursion (λ b. b < 256) (slice_index_or (map (λ x. low_bytes (f x)) xs) p [])
 map-small f [] p = tt
 map-small f (x ∷ xs) zero = low_small (f x)
 map-small f (x ∷ xs) (suc p) = map-small f xs p
@@ -72,7 +72,7 @@ shifting_lawful area table size spare count few inside =
       whole = λ p h.
           let lt : p < held size (length area) = omega (arith, n) in
           let room = held_room p size (length area) lt in
-          ap length (get_d_shifting area table size p [] lt)
+          ap length (get_or-shifting area table size p [] lt)
           ∙ length-map (place_at area (slice_index table p)) (λ b. b % 256)
           ∙ length-place_at (slice_index table p) area (omega (arith, room.2, (inside p room.0).0));
       bytes = map-small (λ p. place_at area (slice_index table p)) (range_with_len 0 (held size (length area)));

@@ -1,6 +1,6 @@
 -- What a page store means: its pages, a count of the pages touched, and what reading and writing do to both.
 use Rattle.std.specs.Prelude.{◌≡◌, ℕ, ◌+◌, ◌%◌, ◌^◌, ◌<◌, ◌≤◌, List, [], length, slice_index_or, slice_set}
-use Rattle.std.specs.List.{AllByRecursion as All}
+use Rattle.std.specs.List.{AllByRecursion}
 use Rattle.stores.specs.declared.StoreFault.{StoreFault}
 
 pub record StoreState : Type 0 where
@@ -18,7 +18,7 @@ touched_once count = (count + 1) % 2 ^ 64
 pub record Lawful (s : StoreState) : Type 0 where
   pub few : length s.pages ≤ 65535
   pub whole : (p : ℕ) → p < length s.pages → length (page_at s.pages p) ≡ 512
-  pub bytes : (p : ℕ) → All (λ b. b < 256) (page_at s.pages p)
+  pub bytes : (p : ℕ) → AllByRecursion (λ b. b < 256) (page_at s.pages p)
   pub counted : s.count < 2 ^ 64
 
 -- page p was read: the buffer then holds it, and the store is as after

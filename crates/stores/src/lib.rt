@@ -1,6 +1,8 @@
 // Page stores: who keeps the pages. A store has a fixed number of pages of 512 bytes and counts the pages that were
 // read or written; what reading and writing do is said once, for every store. The plain and the shifting store keep
 // their pages in a lent area. It uses nothing but the language.
+#![tactic(auto)]
+
 ghost use Rattle.std.specs.Prelude.{◌≡◌, length, MatchResult};
 ghost use Rattle.stores.specs.Store.{StoreState, Lawful, WasRead, WasWritten, NotThere};
 
@@ -24,7 +26,7 @@ pub struct StoreFault {
 pub trait PageStore {
     ghost state: { Self → StoreState };
 
-    // What each store shows of itself. (A `law` would say the same, but takes no proof where the store has a lifetime.)
+    // What each store shows of itself. It stands above the functions, so it is given with the type and is no law.
     ghost lawful: { (s : Self) → Lawful (state s) };
 
     // The number of pages, P.

@@ -11,14 +11,12 @@ use Rattle.tree.specs.Tree.{Node, Tree, find}
 use Rattle.tree.specs.Sound.{SoundNode}
 use Rattle.tree.specs.Path.{heavy_child, for_heavy, batch, staying, too_full}
 use Rattle.tree.specs.Relief.{Relieved, untouched, merge_into, move_batch, receive}
-use Rattle.tree.specs.History.{asked}
 use Rattle.tree.proofs.Bounds.{strictly}
 use Rattle.tree.proofs.Merge.{merge_ascends, read_merge}
 use Rattle.tree.proofs.Divide.{below_ascends, from_ascends, read_divided, divided_at}
 use Rattle.tree.proofs.Batch.{rest_ascends, read_first_rest, not_first}
 use Rattle.tree.proofs.Tombstones.{live_ascends, read_live}
 use Rattle.tree.proofs.Heavy.{heavy_lt}
-use Rattle.tree.proofs.Children.{divided}
 use Rattle.tree.proofs.SKeys.{skeys_unjoin, skeys_replaced}
 use Rattle.tree.proofs.Belong.{ask_join, ask_replaced, ask_at}
 use Rattle.tree.proofs.Sizes.{Sizes}

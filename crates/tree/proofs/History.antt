@@ -69,7 +69,8 @@ module _ {K V : Type 0} {lt : K → K → Bool} (o : Ordered lt) (s : Shape) (sz
         (change_grows o s sz e i).3,
       )
 
-  potential_leaves : (h : ℕ) (t : Tree K V h) → leaves h t * changes_per_leaf_of s ≤ weigh (λ h. 1) (potential_of_leaf s) h t
+  potential_leaves :
+      (h : ℕ) (t : Tree K V h) → leaves h t * changes_per_leaf_of s ≤ weigh (λ h. 1) (potential_of_leaf s) h t
   potential_leaves zero t = omega arith
   potential_leaves (suc h) t =
       omega (arith, sums (leaves h) (weigh (λ h. 1) (potential_of_leaf s) h) t.children (potential_leaves h))

@@ -1,6 +1,6 @@
 -- A tree with at least two children to a node doubles with each level, and it has no more nodes than slots in use: so
 -- 1,024 slots hold at most ten levels, and ten levels take at least 1,023 slots.
-use Rattle.std.proofs.Common.{◌≡◌, ℕ, zero, suc, ◌+◌, ◌-◌, ◌*◌, ◌^◌, ◌≤◌, Bool, cond, eqb, sym, refl, ap, inl, inr, mul_le_mul_right, pow-suc, arith, pow_mono}
+use Rattle.std.proofs.Common.{◌≡◌, ℕ, zero, suc, ◌+◌, ◌-◌, ◌*◌, ◌^◌, ◌≤◌, Bool, cond, eqb, sym, refl, ap, inl, inr, mul-le-mul_right, pow-suc, arith, pow_mono}
 use native.Mathlib.Nat.{pow-zero}
 use Rattle.std.proofs.lemmas.Bool.{cases_lt}
 use Rattle.shape.specs.Shape.{Shape, least_children_of}
@@ -109,7 +109,7 @@ module _ {K V : Type 0} (lt : K → K → Bool) (s : Shape) (sz : Sizes s) where
       let all = sum_least (slot_sum (λ x. 1) h) (SoundChild V lt s h) b lo hi t.children
       (λ lo hi x g. nodes_least h (least_children_of s) lo hi x u g) g.4 in
       let two : 2 ≤ count t.children = omega (arith, g.2) in
-      omega (arith, all, mul_le_mul_right b two, pow-suc 2 (suc h))
+      omega (arith, all, mul-le-mul_right b two, pow-suc 2 (suc h))
 
   pub leaves_least : (h : ℕ) (lo : Low K) (hi : High K) (t : Tree K V h) → SoundChild V lt s h lo hi t →
       least_children_of s ^ h ≤ leaves h t
@@ -119,7 +119,7 @@ module _ {K V : Type 0} (lt : K → K → Bool) (s : Shape) (sz : Sizes s) where
       omega (
         arith,
         sum_least (leaves h) (SoundChild V lt s h) (u ^ h) lo hi t.children (leaves_least h) g.4,
-        mul_le_mul_right (u ^ h) g.2.0,
+        mul-le-mul_right (u ^ h) g.2.0,
         pow-suc u h,
       )
 
@@ -136,7 +136,7 @@ module _ {K V : Type 0} (lt : K → K → Bool) (s : Shape) (sz : Sizes s) where
           omega (
             arith,
             sum_least (leaves n) (SoundChild V lt s n) (u ^ n) least most t.children (leaves_least n) g.4,
-            mul_le_mul_right (u ^ n) g.2.0,
+            mul-le-mul_right (u ^ n) g.2.0,
             ap (λ x. u ^ x) same,
           )
 

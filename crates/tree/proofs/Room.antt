@@ -1,7 +1,7 @@
 -- Each path node is sound and has more than σ − q entries, so it has a batch, and what takes the batch has room: a leaf
 -- node over σ by at most q, and a part of an inner node after it was relieved of as many.
 use Rattle.std.proofs.Common.{ℕ, zero, suc, ◌+◌, ◌-◌, ◌<◌, ◌≤◌, Bool, [], length, arith}
-use Rattle.std.specs.List.{AllByRecursion as All}
+use Rattle.std.specs.List.{AllByRecursion}
 use Rattle.std.proofs.lemmas.Bool.{cond_both, ltb-true}
 use Rattle.shape.specs.Shape.{Shape, batch_of, least_children_of}
 use Rattle.tree.specs.Order.{Ordered}
@@ -62,14 +62,14 @@ module _ {K V : Type 0} {lt : K → K → Bool} (o : Ordered lt) (s : Shape) (sz
 
   pub path_holds : (h fewest : ℕ) (lo : Low K) (hi : High K) (t : Tree K V (suc h)) →
       SoundNode lt s s.capacity fewest (suc h) lo hi t → s.capacity < length t.entries + batch_of s →
-      All (HasRoom lt s) (path lt s h t)
+      AllByRecursion (HasRoom lt s) (path lt s h t)
   path_holds zero fewest lo hi t g l = (node_holds 0 fewest lo hi t g l, tt)
   path_holds (suc h) fewest lo hi t g l =
       let c = heavy_child lt t in
       let room = s.capacity - batch_of s in
       let b = batch_given o s sz (suc h) fewest lo hi t g l in (
         node_holds (suc h) fewest lo hi t g l,
-        cond_both (too_full lt s c) (path lt s h c) [] (All (HasRoom lt s))
+        cond_both (too_full lt s c) (path lt s h c) [] (AllByRecursion (HasRoom lt s))
             (λ e. path_holds h (least_children_of s) _ _ c b.0 (omega (arith, ltb-true room (length c.entries) e)))
             (λ e. tt),
       )

@@ -8,7 +8,8 @@ use Rattle.tree.proofs.Bounds.{strictly, above_up, above_strictly, above_weaker,
 use Rattle.tree.proofs.Children.{low_at, high_at}
 
 module _ {K X : Type 0} where
-  strictly_at : (i : ℕ) (sk : K) (cs : Children K X) → strictly (low_at i (from sk) cs) ≡ strictly (low_at i (past sk) cs)
+  strictly_at :
+      (i : ℕ) (sk : K) (cs : Children K X) → strictly (low_at i (from sk) cs) ≡ strictly (low_at i (past sk) cs)
   strictly_at i sk (one x) = refl
   strictly_at zero sk (more x tk cs) = refl
   strictly_at (suc i) sk (more x tk cs) = refl

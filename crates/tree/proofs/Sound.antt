@@ -1,11 +1,11 @@
 -- Relief keeps nodes sound: a node that moved a batch has room for one, so what it takes next never overfills it, and a
 -- leaf node takes at most q entries over σ, so its halves hold at most σ. The key between two halves of a leaf node has
 -- an entry of the left half below it, and that of an inner node an s-key, so it is strictly above the low end.
-use Rattle.std.proofs.Common.{◌≡◌, ℕ, zero, suc, ◌+◌, ◌-◌, ◌/◌, ◌<◌, ◌≤◌, Bool, List, ◌∷◌, length, sym, refl, ap, ◌∙◌, subst, inl, inr, mul_le_mul_right, mul-le-mul_left, arith, length-drop, length-take}
+use Rattle.std.proofs.Common.{◌≡◌, ℕ, zero, suc, ◌+◌, ◌-◌, ◌/◌, ◌<◌, ◌≤◌, Bool, List, ◌∷◌, length, sym, refl, ap, ◌∙◌, subst, inl, inr, mul-le-mul_right, mul-le-mul_left, arith, length-drop, length-take}
 use Rattle.std.proofs.lemmas.Bool.{cond_both, cases_lt, ltb-true, ltb-false}
 use Rattle.shape.specs.Shape.{Shape, batch_of, least_children_of}
 use Rattle.tree.specs.Order.{Ordered}
-use Rattle.tree.specs.Entries.{Entry, Low, from, past, High, most, until, Ascending, merge, entries_below, entries_from}
+use Rattle.tree.specs.Entries.{Entry, Low, from, past, High, until, Ascending, merge, entries_below, entries_from}
 use Rattle.tree.specs.Entries.{tally, without_tombstones, NoTombstones}
 use Rattle.tree.specs.Children.{Children, one, more, count, replace_at, belongs, heavy_place, SKeysAscend, EachIn}
 use Rattle.tree.specs.Tree.{Node, ChildrenAt, Tree}
@@ -21,7 +21,7 @@ use Rattle.tree.proofs.Heavy.{count_pos, heavy_most}
 use Rattle.tree.proofs.Children.{count_join, count_replaced, low_at, high_at, each_at, each_unjoin, each_replaced}
 use Rattle.tree.proofs.SKeys.{skeys_weaker, skeys_unjoin, skeys_replaced}
 use Rattle.tree.proofs.Belong.{belongs_in}
-use Rattle.tree.proofs.Sizes.{Sizes, sizes}
+use Rattle.tree.proofs.Sizes.{Sizes}
 use Rattle.tree.proofs.Splits.{LeafSplit, whole, halved, InnerSplit, kept, split, leaf_split, inner_split}
 
 module _ {K : Type 0} (V : Type 0) (lt : K → K → Bool) (s : Shape) where
@@ -161,7 +161,7 @@ module _ {K V : Type 0} {lt : K → K → Bool} (o : Ordered lt) (s : Shape) (sz
   enough cs es c l =
       let most = tally (belongs lt cs (heavy_place lt es cs)) es in
       elim (cases_lt most (batch_of s)) [
-        | inl p ↦ absurd (omega (arith, heavy_most o cs es, mul_le_mul_right most c, mul-le-mul_left s.fanout p))
+        | inl p ↦ absurd (omega (arith, heavy_most o cs es, mul-le-mul_right most c, mul-le-mul_left s.fanout p))
         | inr p ↦ p
       ]
 

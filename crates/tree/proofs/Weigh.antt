@@ -1,6 +1,6 @@
 -- How relief changes a sum over the tree, whatever an entry counts by its height and a leaf node by its entries: a
 -- batch that moves down one level lowers the sum by the difference, and what a leaf node adds is bounded by a rule.
-use Rattle.std.proofs.Common.{◌≡◌, ℕ, zero, suc, ◌+◌, ◌-◌, ◌*◌, ◌<◌, ◌≤◌, Bool, List, ◌∷◌, length, refl, ap, mul_le_mul_right, mul-le-mul_left, arith}
+use Rattle.std.proofs.Common.{◌≡◌, ℕ, zero, suc, ◌+◌, ◌-◌, ◌*◌, ◌<◌, ◌≤◌, Bool, List, ◌∷◌, length, refl, ap, mul-le-mul_right, mul-le-mul_left, arith}
 use Rattle.std.proofs.lemmas.Bool.{cond_both, ltb-true}
 use Rattle.shape.specs.Shape.{Shape, batch_of, least_children_of}
 use Rattle.tree.specs.Order.{Ordered}
@@ -65,7 +65,7 @@ module _ {K : Type 0} (V : Type 0) {lt : K → K → Bool} (o : Ordered lt) (s :
 move_sum : (R r gain q l n P G S O C m M : ℕ) → r + gain ≤ R → q + l ≡ n → P ≡ R * l + G → M ≡ suc m →
     G + C ≡ S + O → O + m * (q * gain) ≤ C + r * q → P + M * (q * gain) ≤ R * n + S
 move_sum R r gain q l n P G S O C m M h1 h2 h3 h4 h5 h6 =
-    omega (arith, mul_le_mul_right q h1, ap (λ v. R * v) h2, ap (λ v. v * (q * gain)) h4)
+    omega (arith, mul-le-mul_right q h1, ap (λ v. R * v) h2, ap (λ v. v * (q * gain)) h4)
 
 module _ {K V : Type 0} {lt : K → K → Bool} (o : Ordered lt) (s : Shape) (sz : Sizes s) (per_entry per_leaf : ℕ → ℕ)
     (gain : ℕ) (rises : (h : ℕ) → per_entry h + gain ≤ per_entry (suc h))

@@ -1,7 +1,7 @@
 -- The laws of the model. Each is asked for by the contract of a function of this crate, over byte strings as keys and
 -- values, every order of keys and every legal shape.
 use Rattle.std.specs.Prelude.{◌≡◌, ℕ, suc, ◌+◌, ◌-◌, ◌*◌, ◌^◌, ◌<◌, ◌≤◌, Bool, true, false, ◌||◌, List, ◌∷◌, map, length, Option, ◌≢◌}
-use Rattle.std.specs.List.{AllByRecursion as All}
+use Rattle.std.specs.List.{AllByRecursion}
 use Rattle.shape.specs.Shape.{Shape, batch_of, least_children_of, changes_per_leaf_of, legal}
 use Rattle.tree.specs.Order.{Ordered}
 use Rattle.tree.specs.Entries.{Entry, Low, least, High, most, Ascending, read, has, merge, merge_lists, tally}
@@ -56,7 +56,7 @@ module _ {K : Type 0} (V : Type 0) (lt : K → K → Bool) (shape : Shape) where
   abbrev pub NothingOverflows : Type 0
   NothingOverflows = (h : ℕ) (t : Tree K V (suc h)) →
       SoundNode lt shape shape.capacity 2 (suc h) least most t → length t.entries ≡ shape.capacity →
-      All (HasRoom lt shape) (path lt shape h t)
+      AllByRecursion (HasRoom lt shape) (path lt shape h t)
 
   -- m batches of q entries, each moved down one level, lower the weight by as much; the new entry adds its height
   abbrev pub WeightBoundsBatches : Type 0

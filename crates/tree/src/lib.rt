@@ -2,6 +2,8 @@
 // it keeps. It promises laws of that model, each by the contract of a function here, for keys and values that are byte
 // strings, every order of keys and every legal shape. No code runs on it: the crates that keep the tree on pages cite
 // its definitions and rest on its laws. It uses the crates of records and of shapes.
+#![tactic(auto)]
+
 ghost use Rattle.tree.specs.Laws.{Everywhere, StaysSound, ChangesItsKey, ChangesTheMap, FewBatches, FewSlots};
 ghost use Rattle.tree.specs.Laws.{NothingOverflows, WeightBoundsBatches, PotentialGrowsByOne, AlwaysSound};
 ghost use Rattle.tree.specs.Laws.{AlwaysWithinSlots, AlwaysTheMap, BatchesInAll, LeavesInAll, ManyLeaves};

@@ -6,9 +6,9 @@ pub returns-in-Some : goal.returns-in-Some
 returns-in-Some c =
     let v = c.args.v in
     let buffer = c.args.buffer.now in
-    let part = c.copy-from-slice.new.self in
+    let part = c.copy_from_slice.new.self in
     let whole : v - 0 ≡ v = omega arith in
-    let long : length part ≡ v = omega (arith, c.copy-from-slice.auto.self, length-take (v - 0) buffer) in
+    let long : length part ≡ v = omega (arith, c.copy_from_slice.auto.self, length-take (v - 0) buffer) in
     record {
       lookup = search rules;
       filled = search rules;

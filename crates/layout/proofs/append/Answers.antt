@@ -7,4 +7,4 @@ returns c = λ front n e.
     let part = c.args.part.now in
     let at = c.args.at in
     let k : at + length part - at ≡ length part = omega arith in
-    rw (k, e, c.copy-from-slice.ensures.after) (padded_append front part at (length part) n refl c.requires)
+    rw (k, e, c.copy_from_slice.ensures.after) (padded_append front part at (length part) n refl c.requires)

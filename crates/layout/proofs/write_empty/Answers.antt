@@ -10,6 +10,6 @@ returns g c =
     wrote_empty c.args.kind (chosen c.args.shape)
     (state c.args.store.now) (state c.write.new.self) (state c.write-2.new.self)
     (state c.write-3.new.self) c.page.result
-    c.in-ok-write.ensures.then c.in-ok-write-2.ensures.then
-    c.in-ok-write-3.ensures.then
+    c.in_ok-write.ensures.then c.in_ok-write-2.ensures.then
+    c.in_ok-write-3.ensures.then
     (c.page.ensures ∙ ap (header_page c.args.kind) c.empty.ensures)

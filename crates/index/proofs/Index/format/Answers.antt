@@ -8,13 +8,13 @@ returns g c =
     let state = g.S.PageStore.state in
     let model = g.K.RecordKind.model in
     let before = c.args.self.now in
-    let after = c.format-index.new.self in
+    let after = c.format_index.new.self in
     record {
-      answer = c.format-index.ensures.answer;
-      after = c.format-index.ensures.after;
-      touches = c.format-index.ensures.touches;
+      answer = c.format_index.ensures.answer;
+      after = c.format_index.ensures.after;
+      touches = c.format_index.ensures.touches;
       holds = format_holds (seen state model before) (seen state model after) (asked c.args.numbers)
-          c.format-index.result (g.met.K.RecordKind.lawful before.kind)
+          c.format_index.result (g.met.K.RecordKind.lawful before.kind)
           (g.S.PageStore.lawful before.store)
-          c.format-index.ensures.answer c.format-index.ensures.after;
+          c.format_index.ensures.answer c.format_index.ensures.after;
     }

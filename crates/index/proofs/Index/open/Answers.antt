@@ -11,11 +11,11 @@ returns-in-Ok g c =
     let before = c.args.self.now in
     let after = c.inspect-inspected.new.self in
     let touches =
-    c.touches-since-touches.ensures ∙ ap (λ n. growth n (state after.store).count) c.count-start.ensures in
+    c.touches_since-touches.ensures ∙ ap (λ n. growth n (state after.store).count) c.count-start.ensures in
     record {
       opened = opens (seen state model before) (seen state model after) (g.met.K.RecordKind.lawful before.kind)
           (g.S.PageStore.lawful before.store) (g.S.PageStore.lawful after.store)
-          (Ok (record { touches = c.touches-since-touches.result }))
+          (Ok (record { touches = c.touches_since-touches.result }))
           c.inspect-inspected.result c.inspect-inspected.ensures (sym c.in-Ok.is) touches;
       touches = touches;
     }
@@ -27,11 +27,11 @@ returns-in-Err g c =
     let before = c.args.self.now in
     let after = c.inspect-inspected.new.self in
     let touches =
-    c.touches-since-touches.ensures ∙ ap (λ n. growth n (state after.store).count) c.count-start.ensures in
+    c.touches_since-touches.ensures ∙ ap (λ n. growth n (state after.store).count) c.count-start.ensures in
     record {
       opened = opens (seen state model before) (seen state model after) (g.met.K.RecordKind.lawful before.kind)
           (g.S.PageStore.lawful before.store) (g.S.PageStore.lawful after.store)
-          (Err (record { fault = c.in-Err.fault; touches = c.touches-since-touches.result }))
+          (Err (record { fault = c.in-Err.fault; touches = c.touches_since-touches.result }))
           c.inspect-inspected.result c.inspect-inspected.ensures (sym c.in-Err.is) touches;
       touches = touches;
     }

@@ -1,4 +1,4 @@
-use Rattle.std.proofs.Common.{◌≡◌, sym, ap, ◌∙◌, arith}
+use Rattle.std.proofs.Common.{sym, ap, ◌∙◌, arith}
 use Rattle.layout.specs.LeafPages.{good_marks}
 use Rattle.inspect.specs.Bounds.{low_of, high_of}
 use Rattle.inspect.proofs.OnPage.{both_are}
@@ -10,40 +10,40 @@ returns-then-page-t g c =
     tells_count (g.K.RecordKind.model c.args.kind.now) c.args.leaf c.args.t (low_of c.args.low)
     (high_of c.args.high) c.args.first.now c.args.p c.args.page.now c.if-page-t.true
 
-pub returns-then-not-are-good-marks : goal.returns-then-not-are-good-marks
-returns-then-not-are-good-marks g c =
+pub returns-then-not-are_good_marks : goal.returns-then-not-are_good_marks
+returns-then-not-are_good_marks g c =
     tells_marks (g.K.RecordKind.model c.args.kind.now) c.args.leaf c.args.t (low_of c.args.low)
     (high_of c.args.high) c.args.first.now c.args.p c.args.page.now (omega arith)
-    (sym (c.are-good-marks.ensures ∙ ap (good_marks c.args.leaf c.args.t) c.mark-word.ensures)
-    ∙ c.if-not-are-good-marks.true)
+    (sym (c.are_good_marks.ensures ∙ ap (good_marks c.args.leaf c.args.t) c.mark_word.ensures)
+    ∙ c.if-not-are_good_marks.true)
 
-pub returns-then-not-are-good-keys-is-good-first : goal.returns-then-not-are-good-keys-is-good-first
-returns-then-not-are-good-keys-is-good-first g c =
+pub returns-then-not-are_good_keys-is_good_first : goal.returns-then-not-are_good_keys-is_good_first
+returns-then-not-are_good_keys-is_good_first g c =
     tells_keys (g.K.RecordKind.model c.args.kind.now) c.args.leaf c.args.t (low_of c.args.low)
     (high_of c.args.high) c.args.first.now c.args.p c.args.page.now (omega arith)
-    (sym (c.are-good-marks.ensures ∙ ap (good_marks c.args.leaf c.args.t) c.mark-word.ensures)
-    ∙ c.if-not-are-good-marks.false)
-    (both_are _ _ _ _ _ c.are-good-keys.ensures c.is-good-first.ensures
-    c.if-not-are-good-keys-is-good-first.true)
+    (sym (c.are_good_marks.ensures ∙ ap (good_marks c.args.leaf c.args.t) c.mark_word.ensures)
+    ∙ c.if-not-are_good_marks.false)
+    (both_are _ _ _ _ _ c.are_good_keys.ensures c.is_good_first.ensures
+    c.if-not-are_good_keys-is_good_first.true)
 
-pub returns-then-not-are-good-values-is-rest-zero : goal.returns-then-not-are-good-values-is-rest-zero
-returns-then-not-are-good-values-is-rest-zero g c =
+pub returns-then-not-are_good_values-is_rest_zero : goal.returns-then-not-are_good_values-is_rest_zero
+returns-then-not-are_good_values-is_rest_zero g c =
     tells_values (g.K.RecordKind.model c.args.kind.now) c.args.leaf c.args.t (low_of c.args.low)
     (high_of c.args.high) c.args.first.now c.args.p c.args.page.now (omega arith)
-    (sym (c.are-good-marks.ensures ∙ ap (good_marks c.args.leaf c.args.t) c.mark-word.ensures)
-    ∙ c.if-not-are-good-marks.false)
-    (both_are _ _ _ _ _ c.are-good-keys.ensures c.is-good-first.ensures
-    c.if-not-are-good-keys-is-good-first.false)
-    (both_are _ _ _ _ _ c.are-good-values.ensures c.is-rest-zero.ensures
-    c.if-not-are-good-values-is-rest-zero.true)
+    (sym (c.are_good_marks.ensures ∙ ap (good_marks c.args.leaf c.args.t) c.mark_word.ensures)
+    ∙ c.if-not-are_good_marks.false)
+    (both_are _ _ _ _ _ c.are_good_keys.ensures c.is_good_first.ensures
+    c.if-not-are_good_keys-is_good_first.false)
+    (both_are _ _ _ _ _ c.are_good_values.ensures c.is_rest_zero.ensures
+    c.if-not-are_good_values-is_rest_zero.true)
 
 pub returns : goal.returns
 returns g c =
     tells_good (g.K.RecordKind.model c.args.kind.now) c.args.leaf c.args.t (low_of c.args.low)
     (high_of c.args.high) c.args.first.now c.args.p c.args.page.now (omega arith)
-    (sym (c.are-good-marks.ensures ∙ ap (good_marks c.args.leaf c.args.t) c.mark-word.ensures)
-    ∙ c.if-not-are-good-marks.false)
-    (both_are _ _ _ _ _ c.are-good-keys.ensures c.is-good-first.ensures
-    c.if-not-are-good-keys-is-good-first.false)
-    (both_are _ _ _ _ _ c.are-good-values.ensures c.is-rest-zero.ensures
-    c.if-not-are-good-values-is-rest-zero.false)
+    (sym (c.are_good_marks.ensures ∙ ap (good_marks c.args.leaf c.args.t) c.mark_word.ensures)
+    ∙ c.if-not-are_good_marks.false)
+    (both_are _ _ _ _ _ c.are_good_keys.ensures c.is_good_first.ensures
+    c.if-not-are_good_keys-is_good_first.false)
+    (both_are _ _ _ _ _ c.are_good_values.ensures c.is_rest_zero.ensures
+    c.if-not-are_good_values-is_rest_zero.false)

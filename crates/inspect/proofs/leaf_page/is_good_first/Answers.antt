@@ -1,4 +1,4 @@
-use Rattle.std.proofs.Common.{◌≡◌, sym, arith}
+use Rattle.std.proofs.Common.{sym, arith}
 use Rattle.std.specs.Str.{bytes_eq}
 use Rattle.std.proofs.lemmas.Slice.Eq.{slice_eq-Decides, bytes_eq-Decides}
 use Rattle.std.proofs.lemmas.Bool.Decides.{same_from_decides, Decides-eqb}
@@ -13,8 +13,8 @@ returns-then-t-eq0 g c =
 pub returns : goal.returns
 returns g c =
     let k = g.K.RecordKind.model c.args.kind.now in
-    let key = c.key-at.result.now in
+    let key = c.key_at.result.now in
     let first = c.args.first.now in
-    first_is k c.args.t c.args.page.now first key c.eq.result (omega arith) c.key-at.ensures.key
+    first_is k c.args.t c.args.page.now first key c.eq.result (omega arith) c.key_at.ensures.key
     (same_from_decides c.eq.result (bytes_eq key first) (slice_eq-Decides Decides-eqb _ _ _ c.eq.ensures)
-    (bytes_eq-Decides _ _))
+    (bytes_eq-Decides key first))

@@ -1,7 +1,6 @@
-use Rattle.std.proofs.Common.{◌≡◌, ℕ, ◌+◌, ◌-◌, ◌*◌, ◌<◌, ◌≤◌, min, true, false, List, ◌∷◌, length, get_or, take, drop, set, sym, refl, ap, ◌∙◌, subst, arith, rules}
+use Rattle.std.proofs.Common.{◌≡◌, ◌+◌, ◌-◌, ◌*◌, min, true, false, ◌∷◌, length, get_or, take, drop, set, sym, refl, ap, ◌∙◌, subst, arith, rules}
 use Rattle.std.proofs.lemmas.List.{take_rest}
 use Rattle.std.proofs.lemmas.Bool.{false≢true}
-use Rattle.records.specs.Bytes.{word}
 use Rattle.layout.specs.Nodes.{children_from, good_slots, listed_after}
 use Rattle.inspect.specs.declared.node_page.Listed.{Listed}
 use Rattle.inspect.specs.Listed.{Lists, SlotsBelow}
@@ -47,7 +46,7 @@ returns-then-n-eq0 t c = record {
       let long : length l.flags ≡ 1024 = search rules in
       let m : Listed =
       record { flags = set l.flags slot true; count = c.min-listed.result } in
-      let counted = c.min-listed.ensures ∙ ap (λ x. min x 65535) c.saturating-add.ensures in
+      let counted = c.min-listed.ensures ∙ ap (λ x. min x 65535) c.saturating_add.ensures in
       let r = slots_last c.args.used w slots s_keys c.args.n l before c.if-n-eq0.true
       (omega (arith, x, c.if-slot-used.false)) c.requires.few h
       (ap (λ i. get_or l.flags i false) x ∙ c.if-listed-slot.false) in
@@ -63,7 +62,7 @@ returns-else-n-eq0 t c = record {
       below_more c.args.used w slots s_keys c.args.n (omega arith)
       (omega (arith, first_slot slots (omega arith), c.if-slot-used.false))
       (subst (λ ys. SlotsBelow c.args.used (children_from w (c.args.n - 1) ys (drop w s_keys))) rest
-      (c.list-slots.ensures.below e w (drop w s_keys)));
+      (c.list_slots.ensures.below e w (drop w s_keys)));
   lists = λ w s_keys before h.
       let slots = c.args.slots.now in
       let l = c.args.listed.now in
@@ -74,12 +73,12 @@ returns-else-n-eq0 t c = record {
       let long : length l.flags ≡ 1024 = search rules in
       let m : Listed =
       record { flags = set l.flags slot true; count = c.min-listed.result } in
-      let counted = c.min-listed.ensures ∙ ap (λ x. min x 65535) c.saturating-add.ensures in
+      let counted = c.min-listed.ensures ∙ ap (λ x. min x 65535) c.saturating_add.ensures in
       let r = slots_more used w slots s_keys n l before (omega arith) (omega (arith, x, c.if-slot-used.false))
       c.requires.few h (ap (λ i. get_or l.flags i false) x ∙ c.if-listed-slot.false) in
       let after = lists_more l m slot before (omega (arith, c.if-slot-used.false, c.requires.few)) long refl counted h in
       let rest : take (length slots - 2) (drop 2 slots) ≡ drop 2 slots = take_rest slots 2 in
-      let q = c.list-slots.ensures.lists w (drop w s_keys) (slot ∷ before) after in
+      let q = c.list_slots.ensures.lists w (drop w s_keys) (slot ∷ before) after in
       let to₁ : good_slots used (slot ∷ before)
       (children_from w (n - 1) (take (length slots - 2) (drop 2 slots)) (drop w s_keys))
       ≡ good_slots used before (children_from w n slots s_keys) =
@@ -92,5 +91,5 @@ returns-else-n-eq0 t c = record {
       ap (λ ys. listed_after (slot ∷ before) (children_from w (n - 1) ys (drop w s_keys))) rest
       ∙ ap (λ i. listed_after (i ∷ before) (children_from w (n - 1) (drop 2 slots) (drop w s_keys))) (sym x)
       ∙ sym r.1 in
-      (q.0 ∙ to₁, λ e. subst (λ ls. Lists c.list-slots.new.listed ls) to₂ (q.1 e));
+      (q.0 ∙ to₁, λ e. subst (λ ls. Lists c.list_slots.new.listed ls) to₂ (q.1 e));
 }

@@ -1,4 +1,4 @@
 use Rattle.inspect.proofs.node_page.+list_slots.Given as goal
 
-abbrev pub decreases-list-slots : goal.decreases-list-slots
-decreases-list-slots l = l.n
+abbrev pub decreases-list_slots : goal.decreases-list_slots
+decreases-list_slots l = l.n

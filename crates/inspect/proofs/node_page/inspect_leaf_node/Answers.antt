@@ -1,4 +1,4 @@
-use Rattle.std.proofs.Common.{◌≡◌, drop, Ok, sym, ap, ◌∙◌, arith}
+use Rattle.std.proofs.Common.{drop, Ok, sym, ap, ◌∙◌, arith}
 use Rattle.shape.specs.Made.{chosen}
 use Rattle.layout.specs.Checked.{zeros}
 use Rattle.layout.specs.Nodes.{child_count_on, entry_count_on}
@@ -11,7 +11,7 @@ returns-then-parts-ne0 c = record {
   answer = λ kind pages is.
       let n = ap child_count_on is in
       leaf_children kind (chosen c.args.shape) pages c.args.p
-      (λ z. c.if-parts-ne0.true (omega (arith, n, c.node-parts-parts.ensures.children.0, z)));
+      (λ z. c.if-parts-ne0.true (omega (arith, n, c.node_parts-parts.ensures.children.0, z)));
 }
 
 pub returns-then-parts-capacity : goal.returns-then-parts-capacity
@@ -21,21 +21,21 @@ returns-then-parts-capacity c = record {
       let n = ap child_count_on is in
       let m = ap entry_count_on is in
       leaf_count kind (chosen c.args.shape) pages c.args.p
-      (omega (arith, n, c.node-parts-parts.ensures.children.0, c.if-parts-ne0.false))
-      (omega (arith, m, c.node-parts-parts.ensures.entries, c.capacity.ensures, c.if-parts-capacity.true));
+      (omega (arith, n, c.node_parts-parts.ensures.children.0, c.if-parts-ne0.false))
+      (omega (arith, m, c.node_parts-parts.ensures.entries, c.capacity.ensures, c.if-parts-capacity.true));
 }
 
-pub returns-then-not-all-zero : goal.returns-then-not-all-zero
-returns-then-not-all-zero c = record {
+pub returns-then-not-all_zero : goal.returns-then-not-all_zero
+returns-then-not-all_zero c = record {
   few = tt;
   answer = λ kind pages is.
       let n = ap child_count_on is in
       let m = ap entry_count_on is in
-      let r = ap (drop 3) is ∙ sym c.node-parts-parts.ensures.rest in
+      let r = ap (drop 3) is ∙ sym c.node_parts-parts.ensures.rest in
       leaf_rest kind (chosen c.args.shape) pages c.args.p
-      (omega (arith, n, c.node-parts-parts.ensures.children.0, c.if-parts-ne0.false))
-      (omega (arith, m, c.node-parts-parts.ensures.entries, c.capacity.ensures, c.if-parts-capacity.false))
-      (ap zeros r ∙ sym c.all-zero.ensures ∙ c.if-not-all-zero.true);
+      (omega (arith, n, c.node_parts-parts.ensures.children.0, c.if-parts-ne0.false))
+      (omega (arith, m, c.node_parts-parts.ensures.entries, c.capacity.ensures, c.if-parts-capacity.false))
+      (ap zeros r ∙ sym c.all_zero.ensures ∙ c.if-not-all_zero.true);
 }
 
 pub returns : goal.returns
@@ -44,10 +44,10 @@ returns c = record {
   answer = λ kind pages is.
       let n = ap child_count_on is in
       let m = ap entry_count_on is in
-      let r = ap (drop 3) is ∙ sym c.node-parts-parts.ensures.rest in
-      ap Ok (c.node-parts-parts.ensures.entries ∙ sym m)
+      let r = ap (drop 3) is ∙ sym c.node_parts-parts.ensures.rest in
+      ap Ok (c.node_parts-parts.ensures.entries ∙ sym m)
       ∙ leaf_good kind (chosen c.args.shape) pages c.args.p
-      (omega (arith, n, c.node-parts-parts.ensures.children.0, c.if-parts-ne0.false))
-      (omega (arith, m, c.node-parts-parts.ensures.entries, c.capacity.ensures, c.if-parts-capacity.false))
-      (ap zeros r ∙ sym c.all-zero.ensures ∙ c.if-not-all-zero.false);
+      (omega (arith, n, c.node_parts-parts.ensures.children.0, c.if-parts-ne0.false))
+      (omega (arith, m, c.node_parts-parts.ensures.entries, c.capacity.ensures, c.if-parts-capacity.false))
+      (ap zeros r ∙ sym c.all_zero.ensures ∙ c.if-not-all_zero.false);
 }

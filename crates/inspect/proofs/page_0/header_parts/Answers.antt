@@ -9,12 +9,12 @@ returns c =
     record {
       kind = refl;
       numbers =
-          header_is page c.from-be-bytes.result c.from-be-bytes-2.result c.from-be-bytes-3.result
-          c.from-be-bytes-4.result
+          header_is page c.from_be_bytes.result c.from_be_bytes-2.result c.from_be_bytes-3.result
+          c.from_be_bytes-4.result
           (omega arith)
-          (omega (arith, c.from-be-bytes.ensures))
-          (omega (arith, c.from-be-bytes-2.ensures))
-          (omega (arith, c.from-be-bytes-3.ensures))
-          (omega (arith, c.from-be-bytes-4.ensures));
+          (omega (arith, c.from_be_bytes.ensures))
+          (omega (arith, c.from_be_bytes-2.ensures))
+          (omega (arith, c.from_be_bytes-3.ensures))
+          (omega (arith, c.from_be_bytes-4.ensures));
       rest = take_rest page 14;
     }

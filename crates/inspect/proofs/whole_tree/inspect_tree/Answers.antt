@@ -7,8 +7,8 @@ use Rattle.inspect.specs.Bounds.{low_of, high_of}
 use Rattle.inspect.proofs.TreeTold.{WholeEnded, root_ended, root_broken, slots_unreached, slots_reached}
 use Rattle.inspect.proofs.whole_tree.inspect_tree.Goals as goal
 
-pub returns-in-err-walk : goal.returns-in-err-walk
-returns-in-err-walk g c =
+pub returns-in_err-walk : goal.returns-in_err-walk
+returns-in_err-walk g c =
     let k = g.K.RecordKind.model c.args.kind.now in
     let shape = chosen c.args.shape in
     let s₀ = g.S.PageStore.state c.args.store.now in
@@ -18,15 +18,15 @@ returns-in-err-walk g c =
     let h = c.args.height in
     let root = c.args.root in
     let l = c.walk.new.listed in
-    let e = c.in-err-walk.field-0.0 in
-    let r = c.from-residual.result in
-    let q = err_from_is_err_and r c.from-residual.ensures.1 in
-    let walked = c.in-err-walk.ensures in
+    let e = c.in_err-walk.field-0.0 in
+    let r = c.from_residual.result in
+    let q = err_from_is_err_and r c.from_residual.ensures.1 in
+    let walked = c.in_err-walk.ensures in
     let ended : WholeEnded k shape pages used h root l s₀ s₁ r =
     root_broken k shape pages used h root l s₀ s₁ e r (q.1 ∙ ap Err q.2)
-    (root_ended k shape pages used h root l s₀ s₁ (low_of c.from-least.result) (high_of c.to-most.result) (Err e)
-    (ap low_of c.from-least.ensures) (ap high_of c.to-most.ensures)
-    (walked.answer (root ∷ []) c.list-root-listed.ensures)) in
+    (root_ended k shape pages used h root l s₀ s₁ (low_of c.from_least.result) (high_of c.to_most.result) (Err e)
+    (ap low_of c.from_least.ensures) (ap high_of c.to_most.ensures)
+    (walked.answer (root ∷ []) c.list_root-listed.ensures)) in
     record { pages = walked.pages; answer = ended.0; looked = ended.1 }
 
 pub returns-then-listed-used : goal.returns-then-listed-used
@@ -40,11 +40,11 @@ returns-then-listed-used g c =
     let h = c.args.height in
     let root = c.args.root in
     let l = c.walk.new.listed in
-    let walked = c.in-ok-walk.ensures in
+    let walked = c.in_ok-walk.ensures in
     let ended = slots_unreached k shape pages used h root l s₀ s₁ c.requires.few.0 c.if-listed-used.true
-    (root_ended k shape pages used h root l s₀ s₁ (low_of c.from-least.result) (high_of c.to-most.result) (Ok tt)
-    (ap low_of c.from-least.ensures) (ap high_of c.to-most.ensures)
-    (walked.answer (root ∷ []) c.list-root-listed.ensures)) in
+    (root_ended k shape pages used h root l s₀ s₁ (low_of c.from_least.result) (high_of c.to_most.result) (Ok tt)
+    (ap low_of c.from_least.ensures) (ap high_of c.to_most.ensures)
+    (walked.answer (root ∷ []) c.list_root-listed.ensures)) in
     record { pages = walked.pages; answer = ended.0; looked = ended.1 }
 
 pub returns : goal.returns
@@ -58,9 +58,9 @@ returns g c =
     let h = c.args.height in
     let root = c.args.root in
     let l = c.walk.new.listed in
-    let walked = c.in-ok-walk.ensures in
+    let walked = c.in_ok-walk.ensures in
     let ended = slots_reached k shape pages used h root l s₀ s₁ c.requires.few.0 c.if-listed-used.false
-    (root_ended k shape pages used h root l s₀ s₁ (low_of c.from-least.result) (high_of c.to-most.result) (Ok tt)
-    (ap low_of c.from-least.ensures) (ap high_of c.to-most.ensures)
-    (walked.answer (root ∷ []) c.list-root-listed.ensures)) in
+    (root_ended k shape pages used h root l s₀ s₁ (low_of c.from_least.result) (high_of c.to_most.result) (Ok tt)
+    (ap low_of c.from_least.ensures) (ap high_of c.to_most.ensures)
+    (walked.answer (root ∷ []) c.list_root-listed.ensures)) in
     record { pages = walked.pages; answer = ended.0; looked = ended.1 }

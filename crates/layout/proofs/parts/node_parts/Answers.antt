@@ -1,4 +1,4 @@
-use Rattle.std.proofs.Common.{◌≡◌, sym, refl, arith}
+use Rattle.std.proofs.Common.{sym, refl, arith}
 use Rattle.std.proofs.lemmas.List.{take_rest}
 use Rattle.layout.proofs.Numbers.{two_at}
 use Rattle.layout.proofs.parts.node_parts.Goals as goal

@@ -4,9 +4,9 @@ use Rattle.payout.proofs.ticket.key_of.Goals as goal
 pub returns : goal.returns
 returns c =
     let t = c.args.name in
-    let es = c.to-be-bytes.ensures in
-    let ec = c.to-be-bytes-2.ensures in
-    let ed = c.to-be-bytes-3.ensures in
+    let es = c.to_be_bytes.ensures in
+    let ec = c.to_be_bytes-2.ensures in
+    let ed = c.to_be_bytes-3.ensures in
     record {
       bytes = rw (es, ec, ed) (key_bytes_lem t.serial t.course t.day);
       valid =

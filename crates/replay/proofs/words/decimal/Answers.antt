@@ -9,7 +9,7 @@ returns-then-not-b c =
 
 pub loop-b-preserved : goal.loop-b-preserved
 loop-b-preserved c =
-    left_more c.args.text.now c.loop-b.b-index c.loop-b.n c.saturating-add-n.result
+    left_more c.args.text.now c.loop-b.b-index c.loop-b.n c.saturating_add-n.result
     (omega arith) c.if-not-b.false (omega arith) c.loop-b.invariant
 
 pub returns : goal.returns

@@ -4,5 +4,5 @@ use Rattle.search.proofs.d_tree.copied.Goals as goal
 
 pub returns : goal.returns
 returns c =
-    let after = c.copy-from-slice.ensures.after in
-    take_at c.copy-from-slice.new.self _ (length c.args.value.now) (ap length after) ∙ after
+    let after = c.copy_from_slice.ensures.after in
+    take_at c.copy_from_slice.new.self _ (length c.args.value.now) (ap length after) ∙ after

@@ -7,9 +7,9 @@ pub returns : goal.returns
 returns c =
     let area = c.args.area.now in
     let p = c.args.p in
-    let page : c.copy-from-slice.new.self ≡ place_at area p = search rules in
+    let page : c.copy_from_slice.new.self ≡ place_at area p = search rules in
     record {
       page = page;
       bytes = λ i. subst (λ x. get_or x i 0 < 256) (sym page)
-          (small_place area p (λ j. omega (arith, c.type-inv.area j)) i);
+          (small_place area p (λ j. omega (arith, c.type_inv.area j)) i);
     }

@@ -1,5 +1,5 @@
 use Rattle.std.proofs.Common.{sym, ap, ◌∙◌, arith, rules}
-use Rattle.stores.specs.Places.{low_bytes, inside, get_d_contents}
+use Rattle.stores.specs.Places.{low_bytes, inside, get_or-contents}
 use Rattle.stores.proofs.Writing.{low_same}
 use Rattle.stores.proofs.plain.PlainStorePageStore.read.Goals as goal
 
@@ -11,6 +11,6 @@ returns c = record {
   there = search rules;
   page = sym (low_same c.fetch.new.buffer c.fetch.ensures.bytes)
       ∙ ap low_bytes c.fetch.ensures.page
-      ∙ sym (get_d_contents 65535 c.args.p c.args.self.now.area.now (omega arith));
+      ∙ sym (get_or-contents 65535 c.args.p c.args.self.now.area.now (omega arith));
   then = search rules;
 }

@@ -1,12 +1,12 @@
-use Rattle.std.proofs.Common.{◌≡◌, ℕ, ◌+◌, ◌-◌, ◌*◌, ◌%◌, ◌^◌, ap, ◌∙◌, arith, rules}
+use Rattle.std.proofs.Common.{◌≡◌, ◌+◌, ◌-◌, ◌*◌, ◌%◌, ◌^◌, ap, ◌∙◌, arith, rules}
 use borrow.Rule.Slice.PartMut.{put_mid}
-use Rattle.stores.specs.Store.{StoreState, touched_once}
+use Rattle.stores.specs.Store.{touched_once}
 use Rattle.stores.specs.Places.{inside, contents}
 use Rattle.stores.proofs.Writing.{written, set_contents}
 use Rattle.stores.proofs.plain.PlainStorePageStore.write.Goals as goal
 
-pub slice-bounds-copy-from-slice-end : goal.slice-bounds-copy-from-slice-end
-slice-bounds-copy-from-slice-end c = omega (arith, inside 65535 c.args.p c.args.self.now.area.now (omega arith))
+pub slice_bounds-copy_from_slice-end : goal.slice_bounds-copy_from_slice-end
+slice_bounds-copy_from_slice-end c = omega (arith, inside 65535 c.args.p c.args.self.now.area.now (omega arith))
 
 pub returns : goal.returns
 returns c =
@@ -17,8 +17,8 @@ returns c =
     let width : 512 * p + 512 - 512 * p ≡ 512 = omega arith in
     let area : after.area.now ≡ written p before.area.now b =
     c.touch.ensures.area
-    ∙ ap (λ n. put_mid (512 * p) n before.area.now c.copy-from-slice.new.self) width
-    ∙ ap (written p before.area.now) c.copy-from-slice.ensures.after in
+    ∙ ap (λ n. put_mid (512 * p) n before.area.now c.copy_from_slice.new.self) width
+    ∙ ap (written p before.area.now) c.copy_from_slice.ensures.after in
     let count : after.count % 2 ^ 64 ≡ touched_once (before.count % 2 ^ 64) =
     omega (arith, c.touch.ensures.count) in
     record {

@@ -5,4 +5,4 @@ use Rattle.stores.proofs.shifting.ShiftingStore.held.Goals as goal
 pub returns : goal.returns
 returns c =
     let s = c.args.self.now in
-    c.room-for.ensures ∙ sym (length-shifting s.area.now s.table.places s.table.size)
+    c.room_for.ensures ∙ sym (length-shifting s.area.now s.table.places s.table.size)

@@ -1,5 +1,4 @@
-use Rattle.std.proofs.Common.{◌≡◌, ℕ, ◌<◌, length, get_or, sym, ap, ◌∙◌, arith}
-use Rattle.stores.specs.Store.{StoreState}
+use Rattle.std.proofs.Common.{◌≡◌, ℕ, ◌<◌, length, get_or, ap, ◌∙◌, arith}
 use Rattle.stores.specs.Places.{contents}
 use Rattle.stores.specs.Shifting.{shifting_size}
 use Rattle.stores.proofs.Moving.{fresh_pages}
@@ -9,7 +8,7 @@ pub returns : goal.returns
 returns c =
     let area = c.args.area.now in
     let t = c.new-table.result in
-    let is : t.size ≡ shifting_size (length area) = c.new-table.ensures.size ∙ c.pages-in.ensures in
+    let is : t.size ≡ shifting_size (length area) = c.new-table.ensures.size ∙ c.pages_in.ensures in
     let own : (p : ℕ) → p < t.size → get_or t.places p 0 ≡ p =
     λ p h. c.new-table.ensures.places p (omega (arith, c.new-table.ensures.size)) in
     ap (λ ps. record { pages = ps; count = 0 })

@@ -1,7 +1,7 @@
-use Rattle.std.proofs.Common.{◌≡◌, ◌%◌, ◌^◌, ◌<◌, [], length, sym, ap, ◌∙◌, arith, rules}
-use Rattle.stores.specs.Store.{StoreState, touched_once}
+use Rattle.std.proofs.Common.{◌≡◌, ◌%◌, ◌^◌, ◌<◌, [], length, sym, ap, ◌∙◌, arith}
+use Rattle.stores.specs.Store.{touched_once}
 use Rattle.stores.specs.Places.{low_bytes}
-use Rattle.stores.specs.Shifting.{held, held_room, shifting_pages, length-shifting, get_d_shifting}
+use Rattle.stores.specs.Shifting.{held, held_room, shifting_pages, length-shifting, get_or-shifting}
 use Rattle.stores.proofs.Writing.{low_same}
 use Rattle.stores.proofs.shifting.ShiftingStorePageStore.read.Goals as goal
 
@@ -10,7 +10,7 @@ fetch-requires c =
     let s = c.args.self.now in
     let n = length-shifting s.area.now s.table.places s.table.size in
     let r = held_room c.args.p s.table.size (length s.area.now)
-    (omega (arith, n, c.in-default.ensures)) in
+    (omega (arith, n, c.in_default.ensures)) in
     record { page = r.0; room = r.2 }
 
 pub returns : goal.returns
@@ -18,13 +18,13 @@ returns c =
     let s = c.args.self.now in
     let t = c.touch.new.self in
     let n = length-shifting s.area.now s.table.places s.table.size in
-    let lt : c.args.p < held s.table.size (length s.area.now) = omega (arith, n, c.in-default.ensures) in
+    let lt : c.args.p < held s.table.size (length s.area.now) = omega (arith, n, c.in_default.ensures) in
     let count : t.count % 2 ^ 64 ≡ touched_once (s.count % 2 ^ 64) = omega (arith, c.touch.ensures.count) in
     record {
-      there = c.in-default.ensures;
+      there = c.in_default.ensures;
       page = sym (low_same c.fetch.new.buffer c.fetch.ensures.bytes)
           ∙ ap low_bytes c.fetch.ensures.page
-          ∙ sym (get_d_shifting s.area.now s.table.places s.table.size c.args.p [] lt);
+          ∙ sym (get_or-shifting s.area.now s.table.places s.table.size c.args.p [] lt);
       then =
           ap (λ a. record { pages = shifting_pages a t.table.places t.table.size; count = t.count % 2 ^ 64 })
           c.touch.ensures.area

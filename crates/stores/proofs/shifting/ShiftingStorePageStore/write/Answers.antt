@@ -1,6 +1,6 @@
-use Rattle.std.proofs.Common.{◌≡◌, ◌+◌, ◌-◌, ◌*◌, ◌%◌, ◌^◌, ◌<◌, length, set, sym, ap, ◌∙◌, arith, rules}
+use Rattle.std.proofs.Common.{◌≡◌, ◌+◌, ◌-◌, ◌*◌, ◌%◌, ◌^◌, ◌<◌, length, set, ap, ◌∙◌, arith, rules}
 use borrow.Rule.Slice.PartMut.{put_mid}
-use Rattle.stores.specs.Store.{StoreState, touched_once}
+use Rattle.stores.specs.Store.{touched_once}
 use Rattle.stores.specs.Shifting.{held, held_room, shifting_pages, length-shifting}
 use Rattle.stores.proofs.Writing.{written}
 use Rattle.stores.proofs.Moving.{shifted}
@@ -10,7 +10,7 @@ pub shift-requires : goal.shift-requires
 shift-requires c =
     let s = c.args.self.now in
     let n = length-shifting s.area.now s.table.places s.table.size in
-    (held_room c.args.p s.table.size (length s.area.now) (omega (arith, n, c.in-default.ensures))).0
+    (held_room c.args.p s.table.size (length s.area.now) (omega (arith, n, c.in_default.ensures))).0
 
 pub returns : goal.returns
 returns c =
@@ -20,20 +20,20 @@ returns c =
     let b = c.args.buffer.now in
     let spare = s.table.spare in
     let n = length-shifting s.area.now s.table.places s.table.size in
-    let lt : p < held s.table.size (length s.area.now) = omega (arith, n, c.in-default.ensures) in
+    let lt : p < held s.table.size (length s.area.now) = omega (arith, n, c.in_default.ensures) in
     let width : 512 * spare + 512 - 512 * spare ≡ 512 = omega arith in
     let long : length s.table.places ≡ 1024 = search rules in
     let area : t.area.now ≡ written spare s.area.now b =
     c.touch.ensures.area
-    ∙ ap (λ k. put_mid (512 * spare) k s.area.now c.copy-from-slice.new.self) width
-    ∙ ap (written spare s.area.now) c.copy-from-slice.ensures.after in
+    ∙ ap (λ k. put_mid (512 * spare) k s.area.now c.copy_from_slice.new.self) width
+    ∙ ap (written spare s.area.now) c.copy_from_slice.ensures.after in
     let places : t.table.places ≡ set s.table.places p spare =
     ap (λ m. m.places) c.touch.ensures.table ∙ c.shift.ensures.places in
     let size : t.table.size ≡ s.table.size =
     ap (λ m. m.size) c.touch.ensures.table ∙ c.shift.ensures.size in
     let count : t.count % 2 ^ 64 ≡ touched_once (s.count % 2 ^ 64) = omega (arith, c.touch.ensures.count) in
     record {
-      there = c.in-default.ensures;
+      there = c.in_default.ensures;
       then =
           ap (λ a. record {
             pages = shifting_pages a t.table.places
