@@ -1,7 +1,7 @@
 // What was measured, and how it is printed.
-use index::Lookup;
+use index::{Finding, Lookup};
+use std::fmt;
 use std::time::Duration;
-use std::{fmt, io};
 
 // So many things in a time.
 #[derive(Clone, Copy)]
@@ -31,7 +31,7 @@ impl fmt::Display for Rate {
 }
 
 // The pages that finds touched.
-#[derive(Clone, Copy)]
+#[derive(Clone, Copy, Default)]
 pub(crate) struct Touches {
     pub(crate) many: u64,
     found: u64,
@@ -40,30 +40,24 @@ pub(crate) struct Touches {
 }
 
 impl Touches {
-    pub(crate) fn new() -> Touches {
-        Touches {
-            many: 0,
-            found: 0,
-            sum: 0,
-            most: 0,
-        }
-    }
-
-    pub(crate) fn add(&mut self, touches: u64, lookup: Lookup) {
+    pub(crate) fn add(&mut self, finding: Finding) {
         self.many = self.many.saturating_add(1);
-        self.sum = self.sum.saturating_add(touches);
-        self.most = self.most.max(touches);
-        if let Lookup::Found = lookup {
+        self.sum = self.sum.saturating_add(finding.touches);
+        self.most = self.most.max(finding.touches);
+        if let Lookup::Found = finding.lookup {
             self.found = self.found.saturating_add(1);
         }
     }
+}
 
-    pub(crate) fn print(&self, rt: &HostRuntime) -> io::Result<()> {
+impl fmt::Display for Touches {
+    fn fmt<W: fmt::Write>(&self, f: &mut fmt::Formatter<W>) -> fmt::Result {
         let hundredths = self.sum.saturating_mul(100) / self.many.max(1);
         let (whole, part) = (hundredths / 100, hundredths % 100);
         let (most, found) = (self.most, self.found);
-        println!(rt;
-            "  pages touched by one: {whole}.{part:02} on average, {most} at most; found {found}"
+        write!(
+            f,
+            "{whole}.{part:02} on average, {most} at most; found {found}"
         )
     }
 }

@@ -1,13 +1,13 @@
 -- What a plan says of a key, and the pages of a slot.
-use Rattle.std.specs.Prelude.{ℕ, ◌+◌, ◌-◌, ◌/◌, cond, List, [], ◌∷◌, Some, None, vec_items, Option, ◌==◌}
+use Rattle.std.specs.Prelude.{ℕ, ◌+◌, ◌-◌, ◌/◌, List, [], ◌∷◌, Some, None, vec_items, Option, ◌==◌}
+use Rattle.std.specs.List.{find}
 use Rattle.builder.specs.declared.plan.Item.{Item}
 use Rattle.builder.specs.declared.plan.Node.{Node}
 use Rattle.builder.specs.declared.plan.Wish.{Wish}
 
 -- the first entry of a key
 abbrev pub entry_of : ℕ → List Item → Option Item
-entry_of k [] = None
-entry_of k (x ∷ xs) = cond (x.key == k) (Some x) (entry_of k xs)
+entry_of k items = find (λ x. x.key == k) items
 
 -- what an entry says, or else what comes later
 abbrev pub first_of : Option Item → Option ℕ → Option ℕ

@@ -1,110 +1,62 @@
 // Why a tree is not made, and sums that say so.
 ghost use Rattle.std.specs.Prelude.{◌≡◌, ◌+◌, ◌*◌, ◌/◌, IfOk};
 
-use std::alloc::{AllocError, AllocFailed};
-use std::error::Error;
-use std::fmt;
+use std::alloc::AllocError;
+use std::num::TryFromIntError;
+use thiserror::Error;
 
-#[derive(Debug, Clone, Copy)]
+#[derive(Debug, Clone, Copy, PartialEq, Eq, Error)]
 pub enum BuildFault {
-    // there is no memory
-    Memory,
-    // a number that the kind has no key for
+    #[error("there is no memory")]
+    Memory(#[from(alloc)] AllocError),
+    #[error("the kind has no key of number {0}")]
     NoKey(u32),
-    // a page would have more than 512 bytes
+    #[error("a page would have more than 512 bytes")]
     PageFull,
-    // a number is too large for its field
+    #[error("a number is too large for its field")]
     TooLarge,
-    // the pages asked for are fewer than the tree takes
+    #[error("the tree takes more pages")]
     TooFewPages,
-    // a node, a level or a leaf that the wish does not have
+    #[error("the wish has no such node, level or leaf")]
     Missing,
 }
 
-impl From<AllocError> for BuildFault {
-    fn from(_e: AllocError) -> BuildFault {
-        BuildFault::Memory
+// Written out: the fault has no parts, and a derived conversion makes one that holds the error.
+impl From<TryFromIntError> for BuildFault {
+    fn from(_e: TryFromIntError) -> BuildFault {
+        BuildFault::TooLarge
     }
 }
 
-impl<T: Drop> From<AllocFailed<T>> for BuildFault {
-    fn from(_e: AllocFailed<T>) -> BuildFault {
-        BuildFault::Memory
-    }
-}
+// These four are alike in form only: each is a line of its own operation, and each clause says another sum.
 
 pub(crate) fn plus(a: u32, b: u32) -> Result<u32, BuildFault>
     ensures { IfOk result (λ n. n ≡ a + b) }
 {
-    match a.checked_add(b) {
-        Some(n) => Ok(n),
-        None => Err(BuildFault::TooLarge),
-    }
+    a.checked_add(b).ok_or(BuildFault::TooLarge)
 }
 
 pub(crate) fn times(a: u32, b: u32) -> Result<u32, BuildFault>
     ensures { IfOk result (λ n. n ≡ a * b) }
 {
-    match a.checked_mul(b) {
-        Some(n) => Ok(n),
-        None => Err(BuildFault::TooLarge),
-    }
+    a.checked_mul(b).ok_or(BuildFault::TooLarge)
 }
 
 pub(crate) fn minus(a: u32, b: u32) -> Result<u32, BuildFault>
     ensures { IfOk result (λ n. n + b ≡ a) }
 {
-    if b > a {
-        return Err(BuildFault::TooLarge);
-    }
-    Ok(a - b)
+    a.checked_sub(b).ok_or(BuildFault::TooLarge)
 }
 
 pub(crate) fn divided(a: u32, b: u32) -> Result<u32, BuildFault>
     ensures { IfOk result (λ n. n ≡ a / b) }
 {
-    if b == 0 {
-        return Err(BuildFault::TooLarge);
-    }
-    Ok(a / b)
+    a.checked_div(b).ok_or(BuildFault::TooLarge)
 }
 
-// A length as a number of a plan.
+// A length as a number of a plan, which fits two bytes of a page.
 pub(crate) fn counted(n: usize) -> Result<u32, BuildFault>
     ensures { IfOk result (λ m. m ≡ n) }
 {
-    if n > 65_535 {
-        return Err(BuildFault::TooLarge);
-    }
-    Ok(n as u32)
+    Ok(u32::from(u16::try_from(n)?))
 }
-
-pub(crate) fn one_byte(n: u32) -> Result<u8, BuildFault> {
-    match u8::try_from(n) {
-        Ok(n) => Ok(n),
-        Err(_) => Err(BuildFault::TooLarge),
-    }
-}
-
-// Two bytes, highest first.
-pub(crate) fn two_bytes(n: u32) -> Result<[u8; 2], BuildFault> {
-    match u16::try_from(n) {
-        Ok(n) => Ok(n.to_be_bytes()),
-        Err(_) => Err(BuildFault::TooLarge),
-    }
-}
-
-impl fmt::Display for BuildFault {
-    fn fmt<W: fmt::Write>(&self, f: &mut fmt::Formatter<W>) -> fmt::Result {
-        match self {
-            BuildFault::Memory => f.write_str("there is no memory"),
-            BuildFault::NoKey(n) => write!(f, "the kind has no key of number {n}"),
-            BuildFault::PageFull => f.write_str("a page would have more than 512 bytes"),
-            BuildFault::TooLarge => f.write_str("a number is too large for its field"),
-            BuildFault::TooFewPages => f.write_str("the tree takes more pages"),
-            BuildFault::Missing => f.write_str("the wish has no such node, level or leaf"),
-        }
-    }
-}
-
-impl Error for BuildFault {}

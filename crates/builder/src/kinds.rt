@@ -1,20 +1,22 @@
 // The record kinds by name: the numbers and widths that docs/RECORDS.md gives, and a key and a value for each number.
+// The crate `records` is not asked, nor the script's own names: this crate is a second opinion on both.
 ghost use Rattle.std.specs.Prelude.{◌≡◌, IfOk, vec_len};
 ghost use Rattle.builder.specs.Kinds.{number_of, key_width_of, value_width_of};
 
 use crate::faults::BuildFault;
 use crate::records::{
-    line_key, line_value, narrow_key, ticket_key, ticket_value, widest_key, widest_value,
+    least_key, least_value, line_key, line_value, narrow_key, narrow_value, ticket_key,
+    ticket_value, widest_key, widest_value,
 };
 use std::alloc::Global;
 
-#[derive(Clone, Copy)]
+#[derive(Debug, Clone, Copy, PartialEq, Eq)]
 pub enum KindName {
-    Ticket,
-    PoolLine,
-    Narrow,
-    Widest,
-    Least,
+    Ticket = 1,
+    PoolLine = 2,
+    Narrow = 200,
+    Widest = 201,
+    Least = 202,
 }
 
 impl KindName {
@@ -22,13 +24,7 @@ impl KindName {
     pub fn number(self) -> u8
         ensures { result ≡ number_of self }
     {
-        match self {
-            KindName::Ticket => 1,
-            KindName::PoolLine => 2,
-            KindName::Narrow => 200,
-            KindName::Widest => 201,
-            KindName::Least => 202,
-        }
+        self as u8
     }
 
     // The bytes of a key.
@@ -66,12 +62,7 @@ impl KindName {
             KindName::PoolLine => Vec::from_slice(heap, &line_key(n)?)?,
             KindName::Narrow => Vec::from_slice(heap, &narrow_key(n)?)?,
             KindName::Widest => Vec::from_slice(heap, &widest_key(n))?,
-            KindName::Least => {
-                if n >= 255 {
-                    return Err(BuildFault::NoKey(n));
-                }
-                Vec::from_slice(heap, &[n as u8])?
-            }
+            KindName::Least => Vec::from_slice(heap, &least_key(n)?)?,
         };
         Ok(key)
     }
@@ -83,9 +74,9 @@ impl KindName {
         let value = match self {
             KindName::Ticket => Vec::from_slice(heap, &ticket_value(n))?,
             KindName::PoolLine => Vec::from_slice(heap, &line_value(n))?,
-            KindName::Narrow => Vec::from_slice(heap, &(n & 0xff_ffff).to_be_bytes())?,
+            KindName::Narrow => Vec::from_slice(heap, &narrow_value(n))?,
             KindName::Widest => Vec::from_slice(heap, &widest_value(n))?,
-            KindName::Least => Vec::from_slice(heap, &[(n % 255) as u8])?,
+            KindName::Least => Vec::from_slice(heap, &least_value(n))?,
         };
         Ok(value)
     }

@@ -16,23 +16,37 @@ pub(crate) fn ticket_key(n: u32) -> Result<[u8; 8], BuildFault> {
     Ok([s3, s2, s1, s0, c1, c0, d1, d0])
 }
 
-// The runners of a bet in a pool: the first as given, the others fixed and above it.
-fn runners(pool: u8, first: u8) -> [u8; 3] {
-    match pool {
-        4 | 5 => [first, 39, 0],
-        6 => [first, 39, 40],
-        _ => [first, 0, 0],
-    }
+// The pools, with their numbers: an enum of its own, since this crate is a second opinion on the record kinds.
+#[derive(Debug, Clone, Copy, PartialEq, Eq)]
+enum Pool {
+    Win = 1,
+    Place = 2,
+    Show = 3,
+    Quinella = 4,
+    Exacta = 5,
+    Trifecta = 6,
 }
 
-fn pool_of(n: u32) -> u8 {
-    match n % 6 {
-        0 => 1,
-        1 => 2,
-        2 => 3,
-        3 => 4,
-        4 => 5,
-        _ => 6,
+impl Pool {
+    // Any of the six.
+    fn of(n: u32) -> Pool {
+        match n % 6 {
+            0 => Pool::Win,
+            1 => Pool::Place,
+            2 => Pool::Show,
+            3 => Pool::Quinella,
+            4 => Pool::Exacta,
+            _ => Pool::Trifecta,
+        }
+    }
+
+    // The runners of a bet: the first as given, the others fixed and above it.
+    fn runners(self, first: u8) -> [u8; 3] {
+        match self {
+            Pool::Win | Pool::Place | Pool::Show => [first, 0, 0],
+            Pool::Quinella | Pool::Exacta => [first, 39, 0],
+            Pool::Trifecta => [first, 39, 40],
+        }
     }
 }
 
@@ -45,11 +59,11 @@ fn mixed(n: u32) -> u32 {
 pub(crate) fn ticket_value(n: u32) -> [u8; 10] {
     let n = mixed(n);
     let race = (1 + n / 7 % 12) as u8;
-    let pool = pool_of(n);
-    let [r1, r2, r3] = runners(pool, (1 + n % 38) as u8);
+    let pool = Pool::of(n);
+    let [r1, r2, r3] = pool.runners((1 + n % 38) as u8);
     let [s3, s2, s1, s0] = (50 * (1 + n % 2000)).to_be_bytes();
     let state = (1 + n / 5 % 3) as u8;
-    [race, pool, r1, r2, r3, s3, s2, s1, s0, state]
+    [race, pool as u8, r1, r2, r3, s3, s2, s1, s0, state]
 }
 
 // 38 lines of each of four pools for each race, the later race first.
@@ -61,15 +75,15 @@ pub(crate) fn line_key(n: u32) -> Result<[u8; 9], BuildFault> {
     let day = 1 + n / 1824 % 365;
     let race = (12 - n / 152 % 12) as u8;
     let pool = match n / 38 % 4 {
-        0 => 1,
-        1 => 2,
-        2 => 5,
-        _ => 6,
+        0 => Pool::Win,
+        1 => Pool::Place,
+        2 => Pool::Exacta,
+        _ => Pool::Trifecta,
     };
-    let [r1, r2, r3] = runners(pool, (1 + n % 38) as u8);
+    let [r1, r2, r3] = pool.runners((1 + n % 38) as u8);
     let [c1, c0] = (course as u16).to_be_bytes();
     let [d1, d0] = (day as u16).to_be_bytes();
-    Ok([c1, c0, d1, d0, race, pool, r1, r2, r3])
+    Ok([c1, c0, d1, d0, race, pool as u8, r1, r2, r3])
 }
 
 pub(crate) fn line_value(n: u32) -> [u8; 8] {
@@ -84,6 +98,10 @@ pub(crate) fn narrow_key(n: u32) -> Result<[u8; 3], BuildFault> {
     Ok([a, b, c])
 }
 
+pub(crate) fn narrow_value(n: u32) -> [u8; 4] {
+    (n & 0xff_ffff).to_be_bytes()
+}
+
 // Twenty bytes that are always the same, then the number: a comparison goes through them all.
 pub(crate) fn widest_key(n: u32) -> [u8; 24] {
     let mut key = [0x5a; 24];
@@ -93,7 +111,18 @@ pub(crate) fn widest_key(n: u32) -> [u8; 24] {
 
 pub(crate) fn widest_value(n: u32) -> [u8; 64] {
     let mut value = [0xc3; 64];
-    value[0..4].copy_from_slice(&(n & 0xff_ffff).to_be_bytes());
+    value[0..4].copy_from_slice(&narrow_value(n));
     value[60..64].copy_from_slice(&n.to_be_bytes());
     value
+}
+
+pub(crate) fn least_key(n: u32) -> Result<[u8; 1], BuildFault> {
+    if n >= 255 {
+        return Err(BuildFault::NoKey(n));
+    }
+    Ok([n as u8])
+}
+
+pub(crate) fn least_value(n: u32) -> [u8; 1] {
+    [(n % 255) as u8]
 }

@@ -1,7 +1,8 @@
 // Damage: writes a script for `replay` to standard output: stores that open, with finds, and stores that are damaged in
 // one place, for every rule of the layout and every refusal of open. With the argument `answers` it writes what replay
 // must answer, without the touches, by what it knows of the trees that it made; it does not ask the index. With
-// `store FILE` it writes the file that the stored run of `payout` reads. It is for tests only, and uses `builder`.
+// `store FILE` it writes the file that the stored run of `payout` reads. It is for tests only, and uses `builder` and
+// `script_words`.
 #![tactic(auto)]
 
 mod broken;
@@ -21,8 +22,8 @@ use valid::valid_stores;
 fn write_all(rt: &HostRuntime, side: Side) -> anyhow::Result<()> {
     let scribe = Scribe::new(rt, side);
     scribe.note("Made by the program `damage`; see docs/TESTS.md.")?;
-    valid_stores(scribe, rt.alloc())?;
-    broken_stores(scribe, rt.alloc())
+    valid_stores(scribe)?;
+    broken_stores(scribe)
 }
 
 fn write_store(rt: &HostRuntime, file: &str) -> anyhow::Result<()> {

@@ -7,6 +7,8 @@ mod index_tests;
 #[cfg(test)]
 mod record_tests;
 #[cfg(test)]
+mod script_tests;
+#[cfg(test)]
 mod shape_tests;
 #[cfg(test)]
 mod store_tests;

@@ -1,3 +1,2 @@
 mod Formats
 mod Opens
-mod Finds

@@ -11,7 +11,7 @@ use Rattle.layout.specs.Laws.{AcceptsWhatIsHeld}
 use Rattle.layout.specs.declared.faults.OpenFault.{OpenFault}
 use Rattle.layout.proofs.Inspection.{accepts_what_is_held}
 use Rattle.index.specs.Seen.{State, Seen, opened}
-use Rattle.index.specs.Calls.{growth, touches_of, outcome, open_outcome, open_state}
+use Rattle.index.specs.Calls.{growth, touches_of, outcome, told, open_outcome, open_state}
 use Rattle.index.specs.Calls.{Inspected, Opened}
 use Rattle.index.specs.declared.faults.IndexFault.{IndexFault}
 use Rattle.index.specs.declared.faults.Refusal.{Refusal}
@@ -20,6 +20,15 @@ use Rattle.index.specs.declared.Done.{Done}
 -- the count went on by its growth
 pub grown : (before after : ℕ) → before < 2 ^ 64 → after < 2 ^ 64 → after ≡ touched_more (growth before after) before
 grown before after b a = omega arith
+
+-- an answer that was told is its outcome with its touches
+pub told_outcome : (u : Result Unit IndexFault) (n : ℕ) → outcome (told u n) ≡ u
+told_outcome (Ok tt) n = refl
+told_outcome (Err fault) n = refl
+
+pub told_touches : (u : Result Unit IndexFault) (n : ℕ) → touches_of (told u n) ≡ n
+told_touches (Ok done) n = refl
+told_touches (Err fault) n = refl
 
 pub seen_same :
     (kind kind' : Kind) (pages pages' : List (List ℕ)) (count count' : ℕ) (state state' : State)

@@ -46,6 +46,11 @@ outcome (Err refusal) = Err refusal.fault
 abbrev pub refused : {A : Type 0} → IndexFault → ℕ → Result A Refusal
 refused fault touches = Err (record { fault = fault; touches = touches })
 
+-- an outcome with its touches
+abbrev pub told : Result Unit IndexFault → ℕ → Result Done Refusal
+told (Ok done) touches = Ok (record { touches = touches })
+told (Err fault) touches = refused fault touches
+
 -- why a shape cannot be formatted, if so: a limit is broken, or there are not the pages for page 0 and one slot
 abbrev pub format_fault : Seen → Shape → Option IndexFault
 format_fault x s =

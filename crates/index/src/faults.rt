@@ -5,7 +5,7 @@ ghost use Rattle.index.specs.declared.faults.IndexFault.TheVariants.{Page};
 
 use layout::{OpenFault, PageFault};
 
-#[derive(Clone, Copy)]
+#[derive(Clone, Copy, Debug, PartialEq, Eq)]
 pub enum IndexFault {
     // a change or a find while the index is closed
     Closed,
@@ -31,6 +31,7 @@ pub enum IndexFault {
     TooManyChanges,
 }
 
+// Written out, as the next one: clauses name what they make, and a derived conversion has no ghost member.
 impl From<PageFault> for IndexFault {
     ghost from_gives = { λ e r. r ≡ Page e };
 
@@ -52,14 +53,15 @@ impl From<OpenFault> for IndexFault {
 }
 
 // A refusal: why, and how many pages were touched before that was known.
-#[derive(Clone, Copy)]
+#[derive(Clone, Copy, Debug, PartialEq, Eq)]
 pub struct Refusal {
     pub fault: IndexFault,
     pub touches: u64,
 }
 
-// A refusal as numbers. The layer is 1 for the index, 2 for a page and 3 for the store.
-#[derive(Clone, Copy)]
+// A refusal as numbers, for who reads no Rattle: these numbers are the interface, and so stay plain. The layer is 1 for
+// the index, 2 for a page and 3 for the store.
+#[derive(Clone, Copy, Debug, PartialEq, Eq)]
 pub struct RefusalNumbers {
     pub number: u8,
     pub layer: u8,

@@ -9,8 +9,10 @@ ghost use Rattle.shape.specs.Made.{asked};
 ghost use Rattle.tree.specs.History.{empty};
 ghost use Rattle.layout.specs.Holds.{Holds};
 ghost use Rattle.index.specs.Seen.{Seen, seen, closed};
-ghost use Rattle.index.specs.Calls.{growth, touches_of, Formatted, format_answer, after_format, close_answer, after_close, Inspected, Opened, answer_to, after_call, weighed};
-ghost use Rattle.index.specs.Finds.{LookedUp, find_fault, FindBy, after_find, FewTouches, find_touches, lookup_for, filled_with, first_bytes};
+ghost use Rattle.index.specs.Calls.{growth, touches_of, told, Formatted, format_answer, after_format};
+ghost use Rattle.index.specs.Calls.{close_answer, after_close, Inspected, Opened, answer_to, after_call, weighed};
+ghost use Rattle.index.specs.Finds.{LookedUp, find_fault, FindBy, after_find, FewTouches, find_touches};
+ghost use Rattle.index.specs.Finds.{lookup_for, filled_with, first_bytes};
 
 use inspect::inspect_store;
 use layout::{Header, write_empty};
@@ -23,42 +25,43 @@ pub mod faults;
 
 pub use faults::{IndexFault, Refusal, RefusalNumbers};
 
-// Whether an index is open, and then the numbers of page 0.
-#[derive(Clone, Copy)]
+// Whether an index is open, and then the numbers of page 0. It is a type of its own and no Option, since the project
+// wants the state by name, matched together with the call (see `perform`).
+#[derive(Clone, Copy, Debug, PartialEq, Eq)]
 pub enum Status {
     Closed,
     Open(Header),
 }
 
 // A call, as data.
-#[derive(Clone, Copy)]
+#[derive(Clone, Copy, Debug, PartialEq, Eq)]
 pub enum Call {
     Format(ShapeNumbers),
     Close,
 }
 
 // A call was granted; it touched so many pages.
-#[derive(Clone, Copy)]
+#[derive(Clone, Copy, Debug, PartialEq, Eq)]
 pub struct Done {
     pub touches: u64,
 }
 
 // Whether the index has a key.
-#[derive(Clone, Copy)]
+#[derive(Clone, Copy, Debug, PartialEq, Eq)]
 pub enum Lookup {
     Found,
     Absent,
 }
 
 // What find answers, and how many pages it touched.
-#[derive(Clone, Copy)]
+#[derive(Clone, Copy, Debug, PartialEq, Eq)]
 pub struct Finding {
     pub lookup: Lookup,
     pub touches: u64,
 }
 
 // What a shape costs on a store.
-#[derive(Clone, Copy)]
+#[derive(Clone, Copy, Debug, PartialEq, Eq)]
 pub struct Costs {
     // q: the entries that one batch moves
     pub batch: u16,
@@ -76,6 +79,8 @@ pub struct Costs {
     pub work_bytes: u32,
 }
 
+// Clauses speak of its fields, and it has no model: that would hide the store, the kind and the status, which
+// `into_parts` and `status` answer.
 #[derive(Drop)]
 pub struct Index<S: PageStore, K: RecordKind> {
     store: S,
@@ -148,12 +153,11 @@ impl<S: PageStore, K: RecordKind> Index<S, K> {
         ensures { result ≡ weighed (seen S.PageStore.state K.RecordKind.model self.now)
             (asked numbers) }
     {
-        let Some(shape) = Shape::new(numbers, self.kind.record_width()) else {
-            return Err(Refusal {
-                fault: IndexFault::ShapeLimits,
-                touches: 0,
-            });
+        let refusal = Refusal {
+            fault: IndexFault::ShapeLimits,
+            touches: 0,
         };
+        let shape = Shape::new(numbers, self.kind.record_width()).ok_or(refusal)?;
         Ok(Costs {
             batch: shape.batch(),
             leaf_pages: shape.leaf_pages(),
@@ -186,39 +190,30 @@ impl<S: PageStore, K: RecordKind> Index<S, K> {
         count.wrapping_sub(start)
     }
 
+    // What a call answers that came out so, with the pages touched since the count was `start`.
+    fn told(&self, start: u64, outcome: Result<(), IndexFault>) -> Result<Done, Refusal>
+        ensures { result ≡ told outcome (growth start (S.PageStore.state self.now.store).count) }
+    {
+        let touches = self.touches_since(start);
+        match outcome {
+            Ok(()) => Ok(Done { touches }),
+            Err(fault) => Err(Refusal { fault, touches }),
+        }
+    }
+
     // The tests of format, and then its writes.
     fn write_formatted(&mut self, numbers: ShapeNumbers) -> Result<(), IndexFault>
         ensures { Formatted (seen S.PageStore.state K.RecordKind.model self.old)
             (asked numbers) result
             (seen S.PageStore.state K.RecordKind.model self.new) }
     {
-        let Some(shape) = Shape::new(numbers, self.kind.record_width()) else {
-            return Err(IndexFault::ShapeLimits);
-        };
+        let shape = Shape::new(numbers, self.kind.record_width()).ok_or(IndexFault::ShapeLimits)?;
         if self.store.size() < 1 + u32::from(shape.slot_pages()) {
             return Err(IndexFault::StoreTooSmall);
         }
         write_empty(&mut self.store, self.kind.number(), shape)?;
         self.status = Status::Open(Header::empty(shape));
         Ok(())
-    }
-
-    // Format, with the touches told.
-    fn format_index(&mut self, numbers: ShapeNumbers) -> Result<Done, Refusal>
-        ensures answer { result ≡ format_answer (seen S.PageStore.state K.RecordKind.model self.old)
-            (asked numbers) }
-        ensures after { seen S.PageStore.state K.RecordKind.model self.new
-            ≡ after_format (seen S.PageStore.state K.RecordKind.model self.old) (asked numbers) }
-        ensures touches { touches_of result ≡ growth (S.PageStore.state self.old.store).count
-            (S.PageStore.state self.new.store).count }
-    {
-        let start = self.store.count();
-        let written = self.write_formatted(numbers);
-        let touches = self.store.count().wrapping_sub(start);
-        match written {
-            Ok(()) => Ok(Done { touches }),
-            Err(fault) => Err(Refusal { fault, touches }),
-        }
     }
 
     // Writes an empty index of this shape, one leaf node in slot 0, and opens it; refused, it leaves everything.
@@ -233,7 +228,9 @@ impl<S: PageStore, K: RecordKind> Index<S, K> {
             (S.PageStore.state self.new.store).pages
             (record { shape = asked numbers; index = empty })) }
     {
-        self.format_index(numbers)
+        let start = self.store.count();
+        let written = self.write_formatted(numbers);
+        self.told(start, written)
     }
 
     // The inspection; what it finds decides the state.
@@ -259,11 +256,7 @@ impl<S: PageStore, K: RecordKind> Index<S, K> {
     {
         let start = self.store.count();
         let inspected = self.inspect();
-        let touches = self.touches_since(start);
-        match inspected {
-            Ok(()) => Ok(Done { touches }),
-            Err(fault) => Err(Refusal { fault, touches }),
-        }
+        self.told(start, inspected)
     }
 
     // The tests of find, and then its search.
@@ -320,7 +313,7 @@ impl<S: PageStore, K: RecordKind> Index<S, K> {
         Done { touches: 0 }
     }
 
-    // The call, which does what the state and the call together decide.
+    // The call, which does what the state and the call together decide: so they are matched together, and not by closures.
     pub fn perform(&mut self, call: Call) -> Result<Done, Refusal>
         ensures answer { result ≡ answer_to
             (seen S.PageStore.state K.RecordKind.model self.old) call }

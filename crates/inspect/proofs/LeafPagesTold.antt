@@ -1,7 +1,7 @@
 -- The inspection of leaf pages, one before the next: it stops at the first page that is broken, and otherwise goes on
 -- from the last key of the page.
-use Rattle.std.proofs.Common.{◌≡◌, ℕ, zero, suc, ◌+◌, ◌-◌, ◌*◌, ◌/◌, ◌≤◌, min, Bool, true, false, ◌&&◌, eqb, List, ◌++◌, map, length, get_or, take, drop, Ok, Err, Result, sym, refl, ap, ◌∙◌, suc-mul, zero-mul, arith}
-use Rattle.std.proofs.lemmas.List.{drop-drop, take_rest}
+use Rattle.std.proofs.Common.{◌≡◌, ℕ, zero, suc, ◌+◌, ◌-◌, ◌*◌, ◌/◌, ◌<◌, ◌≤◌, min, Bool, true, false, ◌&&◌, eqb, List, ◌++◌, map, get_or, take, drop, Ok, Err, Result, sym, refl, ap, ◌∙◌, mul-le-mul_right, suc-mul, zero-mul, arith}
+use Rattle.std.proofs.lemmas.List.{drop-drop}
 use Rattle.records.specs.Kind.{Kind, record_width}
 use Rattle.tree.specs.Entries.{Low, past, High}
 use Rattle.layout.specs.Pages.{ByteEntry}
@@ -76,6 +76,10 @@ low_of kind (suc n) page lo h =
     low_last kind.key_width kind.value_width n (marks_on page) (drop 9 page) lo
     ∙ ap (λ i. past (key_on kind page i)) e
 
+-- a page behind n - 1 others has an entry
+pub has_entry : (n E s : ℕ) → 1 ≤ n → 1 ≤ E → n * E < s + E → 1 ≤ min E s
+has_entry n E s some one h = omega (arith, mul-le-mul_right {m = 1} {n = n} E some)
+
 then_told : {A B : Type 0} (x : Checked A) (f : A → B) → told (then x (λ a. Ok (f a))) ≡ told x
 then_told (Ok a) f = refl
 then_told (Err e) f = refl
@@ -87,11 +91,6 @@ module _ (kind : Kind) (per_page : ℕ) (page : ℕ → List ℕ) (leaf : Bool) 
   abbrev pub page_told : ℕ → Low (List ℕ) → List ℕ → ℕ → Result Unit PageFault
   page_told s lo firsts p =
       told (inspect_leaf_page kind leaf (min per_page s) lo hi (take kind.key_width firsts) p (page p))
-
-  pub pages_none :
-      (n s : ℕ) (lo : Low (List ℕ)) (firsts : List ℕ) (p : ℕ) → n ≡ 0 → Ok tt ≡ pages_told n s lo firsts p
-  unfolding inspect_leaf_pages
-  pages_none n s lo firsts p e = rw e
 
   stops : {A B : Type 0} (x : Checked A) (f : A → Checked B) (e : PageFault) → told x ≡ Err e → told (then x f) ≡ Err e
   stops (Ok a) f e h = let z : ◌≡◌ {A = ℕ} 0 1 = cc in absurd (omega arith)
@@ -123,33 +122,3 @@ module _ (kind : Kind) (per_page : ℕ) (page : ℕ → List ℕ) (leaf : Bool) 
       ∙ then_told (rest (low_after lo es)) (λ more. es ++ more)
       ∙ ap (λ l. told (rest l)) (low_of kind t (page p) lo full ∙ ap past (sym is))
       ∙ ap (λ k. pages_told k (s - per_page) (past last) (drop w firsts) (p + 1)) m
-
-  -- the page as the code reads and inspects it
-  pub page_told_lem :
-      (s : ℕ) (lo : Low (List ℕ)) (firsts : List ℕ) (p t w : ℕ) (buffer : List ℕ) → t ≡ min per_page s
-      → w ≡ kind.key_width → buffer ≡ page p
-      → page_told s lo firsts p ≡ told (inspect_leaf_page kind leaf t lo hi (take (w - 0) firsts) p buffer)
-  page_told_lem s lo firsts p t w buffer a b c =
-      let d : w - 0 ≡ kind.key_width = omega arith in rw (a, d, c)
-
-pub last_is :
-    (kind : Kind) (w : ℕ) (array buffer page : List ℕ) (t u : ℕ) → w ≡ kind.key_width → t ≡ u → buffer ≡ page
-    → take kind.key_width array ≡ key_on kind buffer (t - 1) → take (w - 0) array ≡ key_on kind page (u - 1)
-last_is kind w array buffer page t u a b c e =
-    let d : w - 0 ≡ kind.key_width = omega arith in
-    ap (λ n. take n array) d ∙ e ∙ ap (λ n. key_on kind buffer (n - 1)) b ∙ ap (λ x. key_on kind x (u - 1)) c
-
-pub rest_part :
-    (kind : Kind) (w : ℕ) (firsts : List ℕ) → w ≡ kind.key_width
-    → take (length firsts - w) (drop w firsts) ≡ drop kind.key_width firsts
-rest_part kind w firsts a = take_rest firsts w ∙ ap (λ n. drop n firsts) a
-
-pub pages_same :
-    (kind : Kind) (per_page : ℕ) (page page_too : ℕ → List ℕ) (leaf : Bool) (hi : High (List ℕ)) (n s s_too : ℕ)
-    (lo : Low (List ℕ)) (firsts firsts_too : List ℕ) (p : ℕ) → page ≡ page_too → s ≡ s_too → firsts ≡ firsts_too
-    → pages_told kind per_page page leaf hi n s lo firsts p
-    ≡ pages_told kind per_page page_too leaf hi n s_too lo firsts_too p
-pages_same kind per_page page page_too leaf hi n s s_too lo firsts firsts_too p a b c =
-    ap (λ x. pages_told kind per_page x leaf hi n s lo firsts p) a
-    ∙ ap (λ x. pages_told kind per_page page_too leaf hi n x lo firsts p) b
-    ∙ ap (λ x. pages_told kind per_page page_too leaf hi n s_too lo x p) c

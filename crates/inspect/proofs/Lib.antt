@@ -1,9 +1,7 @@
+mod Entries
 mod OnPage
-mod LeafTold
 mod LeafPagesTold
-mod DTreeTold
 mod NodeTold
-mod Page0Told
 mod WalkTold
 mod TreeTold
 mod StoreTold

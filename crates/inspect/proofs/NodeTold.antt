@@ -1,56 +1,171 @@
 -- The inspection of a node page, child by child: each slot is tested and listed, each s-key tested, before the next.
-use Rattle.std.proofs.Common.{◌≡◌, ℕ, zero, suc, ◌+◌, ◌-◌, ◌*◌, ◌<◌, ◌≤◌, min, Bool, true, false, ◌&&◌, eqb, ltb, leb, List, ◌∷◌, length, get_or, take, drop, set, Ok, Err, Result, sym, ap, ◌∙◌, subst, ⊎_elim, mul-le-mul, arith}
-use Rattle.std.proofs.lemmas.List.{drop-drop, take_rest, get_or-set_same, get_or-set_other}
-use Rattle.std.proofs.lemmas.Bool.{cases_eq, eq-eqb, ne_eqb, lt-ltb, le-ltb, lt-leb, le-leb, ltb-true, ltb-false}
+use Rattle.std.proofs.Common.{◌≡◌, ℕ, zero, suc, ◌+◌, ◌-◌, ◌*◌, ◌/◌, ◌<◌, ◌≤◌, min, Bool, true, false, ◌&&◌, eqb, ltb, List, [], ◌∷◌, ◌++◌, map, length, get_or, take, drop, set, sym, refl, ap, subst, ◌∙◌, ⊎_elim, mul-le-mul, suc-mul, zero-mul, arith}
+use Rattle.std.proofs.lemmas.List.{drop-drop, drop_more, take_rest, get_or-set_same, get_or-set_other, length-append, length-drop, take_at, drop_at, take-take, drop-take}
+use Rattle.std.proofs.lemmas.Bool.{cases_eq, eq-eqb, ne_eqb, lt-ltb, le-ltb}
+use Rattle.std.proofs.Math.Bool.{and-true}
+use Rattle.std.specs.Int.{w16, from_be_bytes}
+use Rattle.std.specs.Simd.{first_chunks}
 use Rattle.records.specs.Bytes.{word}
-use Rattle.records.specs.Kind.{Kind}
-use Rattle.tree.specs.Entries.{Low, past, High}
-use Rattle.layout.specs.LeafPages.{good_key}
-use Rattle.layout.specs.Checked.{Checked, zeros}
-use Rattle.layout.specs.Nodes.{
-  SlotChildren,
-  child_count_on,
-  entry_count_on,
-  children_from,
-  children_on,
-  times_in,
-  good_slots,
-  good_s_keys,
-  listed_after,
-  inspect_leaf_node,
-  inspect_inner_node,
-}
+use Rattle.tree.specs.Children.{one, more}
+use Rattle.layout.specs.Nodes.{SlotChildren, children_from, times_in, good_slots, listed_after}
 use Rattle.layout.proofs.Numbers.{two_at}
-use Rattle.layout.specs.declared.faults.PageFault.{PageFault}
-use Rattle.layout.specs.declared.faults.PageFault.TheVariants.{Layout}
-use Rattle.layout.specs.declared.faults.Rule.TheVariants.{ChildCount, EntryCount, ChildSlots, SKeys, NodeRest}
-use Rattle.shape.specs.Shape.{Shape}
-use Rattle.inspect.specs.declared.node_page.Listed.{Listed}
+use Rattle.inspect.specs.declared.listed.Listed.{Listed}
 use Rattle.inspect.specs.Listed.{Lists, SlotsBelow}
-use Rattle.inspect.specs.Bounds.{told}
 
-pub first_slot : (bs : List ℕ) → 2 ≤ length bs → word (take 2 bs) ≡ get_or bs 0 0 * 256 + get_or bs 1 0
-first_slot bs h = two_at 0 bs (omega arith)
+pub first_slot :
+    (bs : List ℕ) → 2 ≤ length bs → word (take 2 bs) ≡ from_be_bytes w16 (get_or bs 0 0 ∷ get_or bs 1 0 ∷ [])
+first_slot bs h = two_at 0 bs (omega arith) ∙ omega arith
 
--- s-keys
-module _ (kind : Kind) (hi : High (List ℕ)) (w : ℕ) where
-  pub s_keys_none :
-      (n : ℕ) (lo : Low (List ℕ)) (slots keys : List ℕ) → n ≡ 0
-      → true ≡ good_s_keys kind lo hi (children_from w n slots keys)
-  unfolding good_s_keys children_from
-  s_keys_none n lo slots keys e = rw e
+-- children, one by one
+pub children_one :
+    (w n : ℕ) (slots keys : List ℕ) → n ≡ 0 → children_from w n slots keys ≡ one (word (take 2 slots))
+unfolding children_from
+children_one w zero slots keys e = refl
+children_one w (suc n) slots keys e = absurd (omega arith)
 
-  pub s_keys_more :
-      (n : ℕ) (lo : Low (List ℕ)) (slots keys : List ℕ) → 1 ≤ n
-      → good_s_keys kind lo hi (children_from w n slots keys)
-      ≡ (good_key kind lo hi (take w keys)
-      && good_s_keys kind (past (take w keys)) hi (children_from w (n - 1) (drop 2 slots) (drop w keys)))
-  unfolding good_s_keys children_from
-  s_keys_more zero lo slots keys h = absurd (omega arith)
-  s_keys_more (suc n) lo slots keys h =
-      let e : n ≡ suc n - 1 = omega arith in
-      ap (λ m. good_key kind lo hi (take w keys)
-      && good_s_keys kind (past (take w keys)) hi (children_from w m (drop 2 slots) (drop w keys))) e
+pub children_more :
+    (w n : ℕ) (slots keys : List ℕ) → 1 ≤ n
+    → children_from w n slots keys
+    ≡ more (word (take 2 slots)) (take w keys) (children_from w (n - 1) (drop 2 slots) (drop w keys))
+unfolding children_from
+children_more w zero slots keys h = absurd (omega arith)
+children_more w (suc n) slots keys h =
+    let e : n ≡ suc n - 1 = omega arith in
+    ap (λ m. more (word (take 2 slots)) (take w keys) (children_from w m (drop 2 slots) (drop w keys))) e
+
+-- the slots of children, in one list
+abbrev pub slots_of : SlotChildren → List ℕ
+slots_of (one x) = x ∷ []
+slots_of (more x sk cs) = x ∷ slots_of cs
+
+-- good_slots and listed_after of such a list, and that all of its slots are used ones; here no slot may be left
+abbrev pub good_list : (used : ℕ) → List ℕ → List ℕ → Bool
+good_list used listed [] = true
+good_list used listed (x ∷ xs) = ltb x used && (eqb (times_in x listed) 0 && good_list used (x ∷ listed) xs)
+
+abbrev pub list_after : List ℕ → List ℕ → List ℕ
+list_after listed [] = listed
+list_after listed (x ∷ xs) = list_after (x ∷ listed) xs
+
+abbrev pub ListBelow : ℕ → List ℕ → Type 0
+ListBelow used [] = Unit {0}
+ListBelow used (x ∷ xs) = (x < used) × ListBelow used xs
+
+pub slots_good :
+    (used : ℕ) (listed : List ℕ) (cs : SlotChildren) → good_list used listed (slots_of cs) ≡ good_slots used listed cs
+unfolding good_slots
+slots_good used listed (one x) = ap (λ b. ltb x used && b) (and-true (eqb (times_in x listed) 0))
+slots_good used listed (more x sk cs) =
+    ap (λ b. ltb x used && (eqb (times_in x listed) 0 && b)) (slots_good used (x ∷ listed) cs)
+
+slots_after : (listed : List ℕ) (cs : SlotChildren) → list_after listed (slots_of cs) ≡ listed_after listed cs
+slots_after listed (one x) = refl
+slots_after listed (more x sk cs) = slots_after (x ∷ listed) cs
+
+slots_below : (used : ℕ) (cs : SlotChildren) → ListBelow used (slots_of cs) → SlotsBelow used cs
+slots_below used (one x) h = h.0
+slots_below used (more x sk cs) h = (h.0, slots_below used cs h.1)
+
+-- the slots that pairs of bytes write
+abbrev pub pair_slots : List (List ℕ) → List ℕ
+pair_slots = map (from_be_bytes w16)
+
+pair_slot : (bs : List ℕ) → 2 ≤ length bs → word (take 2 bs) ≡ from_be_bytes w16 (take 2 bs)
+pair_slot [] h = absurd (omega arith)
+pair_slot (a ∷ []) h = absurd (omega arith)
+pair_slot (a ∷ b ∷ rest) h = first_slot (a ∷ b ∷ rest) h
+
+pairs_of :
+    (w n k : ℕ) (slots keys : List ℕ) → n < k → 2 * k ≤ length slots
+    → pair_slots (take (suc n) (first_chunks 2 k slots)) ≡ slots_of (children_from w n slots keys)
+unfolding children_from
+pairs_of w n zero slots keys few long = absurd (omega arith)
+pairs_of w zero (suc k) slots keys few long = ap (λ x. x ∷ []) (sym (pair_slot slots (omega arith)))
+pairs_of w (suc n) (suc k) slots keys few long =
+    rw (pair_slot slots (omega arith))
+    (ap (λ xs. from_be_bytes w16 (take 2 slots) ∷ xs)
+    (pairs_of w n k (drop 2 slots) (drop w keys) (omega arith) (omega (arith, length-drop 2 slots))))
+
+pub pairs_told :
+    (w n : ℕ) (slots keys : List ℕ) (pairs : List (List ℕ)) → 2 * n + 2 ≤ length slots
+    → pairs ≡ first_chunks 2 (length slots / 2) slots
+    → pair_slots (take (n + 1) pairs) ≡ slots_of (children_from w n slots keys)
+pairs_told w n slots keys pairs long e =
+    ap (λ ps. pair_slots (take (n + 1) ps)) e
+    ∙ ap (λ m. pair_slots (take m (first_chunks 2 (length slots / 2) slots))) (let z : n + 1 ≡ suc n = omega arith in z)
+    ∙ pairs_of w n (length slots / 2) slots keys (omega arith) (omega arith)
+
+pub pairs_more :
+    (pairs : List (List ℕ)) (i x : ℕ) → i < length pairs → x ≡ from_be_bytes w16 (get_or pairs i [])
+    → pair_slots (drop i pairs) ≡ x ∷ pair_slots (drop (i + 1) pairs)
+pairs_more pairs i x h e =
+    ap pair_slots (drop_more pairs i [] h) ∙ ap (λ y. y ∷ pair_slots (drop (i + 1) pairs)) (sym e)
+
+-- after some slots of a list were found good, and listed: what is known, from what is left
+pub record Seen (used : ℕ) (now : Listed) (before all left : List ℕ) : Type 0 where
+  pub seen : List ℕ
+  pub listed : Lists now seen
+  pub good : good_list used before all ≡ good_list used seen left
+  pub after : list_after before all ≡ list_after seen left
+
+pub record Taken (used : ℕ) (old now : Listed) (all left : List ℕ) : Type 0 where
+  pub below : ListBelow used left → ListBelow used all
+  pub lists : (before : List ℕ) → Lists old before → Seen used now before all left
+
+pub taken_none : {used : ℕ} {old : Listed} {all : List ℕ} → Taken used old old all all
+taken_none {used} {old} {all} = record {
+  below = λ h. h;
+  lists = λ before h. record { seen = before; listed = h; good = refl; after = refl };
+}
+
+module _ {used x : ℕ} {old now : Listed} {all left rest : List ℕ} (t : Taken used old now all left)
+    (e : left ≡ x ∷ rest) where
+  good_next : {before : List ℕ} → (s : Seen used now before all left) → good_list used before all
+      ≡ ltb x used && (eqb (times_in x s.seen) 0 && good_list used (x ∷ s.seen) rest)
+  good_next s = s.good ∙ ap (good_list used s.seen) e
+
+  pub taken_more :
+      {next : Listed} → x < used
+      → ((seen : List ℕ) → Lists now seen → (true ≡ eqb (times_in x seen) 0) × (true ≡ true → Lists next (x ∷ seen)))
+      → Taken used old next all rest
+  taken_more small new = record {
+    below = λ h. t.below (subst (ListBelow used) (sym e) (small, h));
+    lists = λ before h.
+        let s = t.lists before h in
+        let n = new s.seen s.listed in
+        record {
+          seen = x ∷ s.seen;
+          listed = n.1 refl;
+          good = good_next s ∙ rw (lt-ltb x used small, sym n.0) refl;
+          after = s.after ∙ ap (list_after s.seen) e;
+        };
+  }
+
+  -- a slot that is not a used one, or was listed before
+  pub taken_unused : {before : List ℕ} → used ≤ x → Lists old before → false ≡ good_list used before all
+  taken_unused {before} big h = let s = t.lists before h in sym (good_next s ∙ rw (le-ltb x used big) refl)
+
+  pub taken_twice :
+      {before : List ℕ} → x < used → ((seen : List ℕ) → Lists now seen → false ≡ eqb (times_in x seen) 0)
+      → Lists old before → false ≡ good_list used before all
+  taken_twice {before} small twice h =
+      let s = t.lists before h in sym (good_next s ∙ rw (lt-ltb x used small, sym (twice s.seen s.listed)) refl)
+
+module _ {used : ℕ} {old now : Listed} {all left : List ℕ} (cs : SlotChildren) (t : Taken used old now all left)
+    (e : left ≡ []) (is : all ≡ slots_of cs) where
+  pub taken_below : SlotsBelow used cs
+  taken_below = slots_below used cs (subst (ListBelow used) is (t.below (subst (ListBelow used) (sym e) tt)))
+
+  pub taken_good :
+      {before : List ℕ} → Lists old before
+      → (true ≡ good_slots used before cs) × (true ≡ true → Lists now (listed_after before cs))
+  taken_good {before} h =
+      let s = t.lists before h in
+      let good = s.good ∙ ap (good_list used s.seen) e in
+      let after = s.after ∙ ap (list_after s.seen) e in (
+        sym good ∙ ap (good_list used before) is ∙ slots_good used before cs,
+        λ b. subst (Lists now) (sym after ∙ ap (list_after before) is ∙ slots_after before cs) s.listed,
+      )
 
 -- slots
 times_more : (slot x : ℕ) (listed : List ℕ) → slot ≡ x → ltb 0 (times_in slot (x ∷ listed)) ≡ true
@@ -73,161 +188,6 @@ lists_more l m x listed small long f c h = record {
   count = omega (arith, c, h.count);
 }
 
-not_listed : (l : Listed) (listed : List ℕ) (x : ℕ) → x < 1024 → Lists l listed → get_or l.flags x false ≡ false
-    → eqb (times_in x listed) 0 ≡ true
-not_listed l listed x small h e =
-    eq-eqb (times_in x listed) 0 (omega (arith, ltb-false 0 (times_in x listed) (sym (h.flags x small) ∙ e)))
-
-is_listed : (l : Listed) (listed : List ℕ) (x : ℕ) → x < 1024 → Lists l listed → get_or l.flags x false ≡ true
-    → eqb (times_in x listed) 0 ≡ false
-is_listed l listed x small h e =
-    ne_eqb (times_in x listed) 0 (λ z. let t = ltb-true 0 (times_in x listed) (sym (h.flags x small) ∙ e) in omega arith)
-
-module _ (used w : ℕ) (slots s_keys : List ℕ) where
-  abbrev first : ℕ
-  first = word (take 2 slots)
-
-  pub slots_past :
-      (n : ℕ) (listed : List ℕ) → used ≤ first → good_slots used listed (children_from w n slots s_keys) ≡ false
-  unfolding good_slots children_from
-  slots_past zero listed h = let b = le-ltb first used h in rw b
-  slots_past (suc n) listed h = let b = le-ltb first used h in rw b
-
-  pub slots_twice :
-      (n : ℕ) (l : Listed) (listed : List ℕ) → first < used → used ≤ 1024 → Lists l listed
-      → get_or l.flags first false ≡ true → good_slots used listed (children_from w n slots s_keys) ≡ false
-  unfolding good_slots children_from
-  slots_twice zero l listed lt few h e =
-      let a = lt-ltb first used lt in let b = is_listed l listed first (omega arith) h e in rw (a, b)
-  slots_twice (suc n) l listed lt few h e =
-      let a = lt-ltb first used lt in let b = is_listed l listed first (omega arith) h e in rw (a, b)
-
-  pub slots_last :
-      (n : ℕ) (l : Listed) (listed : List ℕ) → n ≡ 0 → first < used → used ≤ 1024 → Lists l listed
-      → get_or l.flags first false ≡ false
-      → (good_slots used listed (children_from w n slots s_keys) ≡ true)
-      × (listed_after listed (children_from w n slots s_keys) ≡ first ∷ listed)
-  unfolding good_slots children_from
-  slots_last n l listed z lt few h e =
-      let a = lt-ltb first used lt in
-      let b = not_listed l listed first (omega arith) h e in
-      (rw (z, a, b), rw z)
-
-  pub slots_more :
-      (n : ℕ) (l : Listed) (listed : List ℕ) → 1 ≤ n → first < used → used ≤ 1024 → Lists l listed
-      → get_or l.flags first false ≡ false
-      → (good_slots used listed (children_from w n slots s_keys)
-      ≡ good_slots used (first ∷ listed) (children_from w (n - 1) (drop 2 slots) (drop w s_keys)))
-      × (listed_after listed (children_from w n slots s_keys)
-      ≡ listed_after (first ∷ listed) (children_from w (n - 1) (drop 2 slots) (drop w s_keys)))
-  unfolding good_slots children_from
-  slots_more zero l listed some lt few h e = absurd (omega arith)
-  slots_more (suc n) l listed some lt few h e =
-      let a = lt-ltb first used lt in
-      let b = not_listed l listed first (omega arith) h e in
-      let m : n ≡ suc n - 1 = omega arith in
-      let cs : ℕ → SlotChildren = λ i. children_from w i (drop 2 slots) (drop w s_keys) in
-      (rw (a, b) (ap (λ i. good_slots used (first ∷ listed) (cs i)) m), ap (λ i. listed_after (first ∷ listed) (cs i)) m)
-
-  pub below_last : (n : ℕ) → n ≡ 0 → first < used → SlotsBelow used (children_from w n slots s_keys)
-  unfolding children_from
-  below_last n z lt = rw z lt
-
-  pub below_more :
-      (n : ℕ) → 1 ≤ n → first < used → SlotsBelow used (children_from w (n - 1) (drop 2 slots) (drop w s_keys))
-      → SlotsBelow used (children_from w n slots s_keys)
-  unfolding children_from
-  below_more zero some lt h = absurd (omega arith)
-  below_more (suc n) some lt h =
-      let m : suc n - 1 ≡ n = omega arith in
-      (lt, subst (λ i. SlotsBelow used (children_from w i (drop 2 slots) (drop w s_keys))) m h)
-
--- the node page of a leaf node
-module _ (kind : Kind) (shape : Shape) (pages : ℕ → List ℕ) (p : ℕ) where
-  abbrev leaf_answer : Checked ℕ
-  leaf_answer = inspect_leaf_node kind shape pages p
-
-  pub leaf_children : (child_count_on (pages p) ≡ 0 → ⊥) → Err (Layout p ChildCount) ≡ leaf_answer
-  unfolding inspect_leaf_node
-  leaf_children a = let e = ne_eqb (child_count_on (pages p)) 0 a in rw e
-
-  pub leaf_count :
-      child_count_on (pages p) ≡ 0 → shape.capacity < entry_count_on (pages p) → Err (Layout p EntryCount) ≡ leaf_answer
-  unfolding inspect_leaf_node
-  leaf_count a b =
-      let e = eq-eqb (child_count_on (pages p)) 0 a in
-      let f = lt-leb (entry_count_on (pages p)) shape.capacity b in rw (e, f)
-
-  pub leaf_rest :
-      child_count_on (pages p) ≡ 0 → entry_count_on (pages p) ≤ shape.capacity → zeros (drop 3 (pages p)) ≡ false
-      → Err (Layout p NodeRest) ≡ leaf_answer
-  unfolding inspect_leaf_node
-  leaf_rest a b c =
-      let e = eq-eqb (child_count_on (pages p)) 0 a in
-      let f = le-leb (entry_count_on (pages p)) shape.capacity b in rw (e, f, c)
-
-  pub leaf_good :
-      child_count_on (pages p) ≡ 0 → entry_count_on (pages p) ≤ shape.capacity → zeros (drop 3 (pages p)) ≡ true
-      → Ok (entry_count_on (pages p)) ≡ leaf_answer
-  unfolding inspect_leaf_node
-  leaf_good a b c =
-      let e = eq-eqb (child_count_on (pages p)) 0 a in
-      let f = le-leb (entry_count_on (pages p)) shape.capacity b in rw (e, f, c)
-
--- the node page of an inner node
-module _
-    (kind : Kind) (shape : Shape) (pages : ℕ → List ℕ) (used fewest : ℕ) (before : List ℕ) (lo : Low (List ℕ))
-    (hi : High (List ℕ)) (p : ℕ) where
-  abbrev pub inner_answer : Result Unit PageFault
-  inner_answer = told (inspect_inner_node kind shape pages used fewest before lo hi p)
-
-  abbrev pub children_good : Bool
-  children_good = leb fewest (child_count_on (pages p)) && leb (child_count_on (pages p)) shape.fanout
-
-  abbrev pub slots_good : Bool
-  slots_good = good_slots used before (children_on kind.key_width (pages p))
-
-  abbrev pub s_keys_good : Bool
-  s_keys_good = good_s_keys kind lo hi (children_on kind.key_width (pages p))
-
-  abbrev pub rest_good : Bool
-  rest_good =
-      let c = child_count_on (pages p) in
-      zeros (drop (3 + 2 * c + (c - 1) * kind.key_width) (pages p))
-
-  pub inner_children : children_good ≡ false → Err (Layout p ChildCount) ≡ inner_answer
-  unfolding inspect_inner_node
-  inner_children a = rw a
-
-  pub inner_count :
-      children_good ≡ true → shape.capacity < entry_count_on (pages p) → Err (Layout p EntryCount) ≡ inner_answer
-  unfolding inspect_inner_node
-  inner_count a b = let f = lt-leb (entry_count_on (pages p)) shape.capacity b in rw (a, f)
-
-  pub inner_slots :
-      children_good ≡ true → entry_count_on (pages p) ≤ shape.capacity → slots_good ≡ false
-      → Err (Layout p ChildSlots) ≡ inner_answer
-  unfolding inspect_inner_node
-  inner_slots a b c = let f = le-leb (entry_count_on (pages p)) shape.capacity b in rw (a, f, c)
-
-  pub inner_s_keys :
-      children_good ≡ true → entry_count_on (pages p) ≤ shape.capacity → slots_good ≡ true → s_keys_good ≡ false
-      → Err (Layout p SKeys) ≡ inner_answer
-  unfolding inspect_inner_node
-  inner_s_keys a b c d = let f = le-leb (entry_count_on (pages p)) shape.capacity b in rw (a, f, c, d)
-
-  pub inner_rest :
-      children_good ≡ true → entry_count_on (pages p) ≤ shape.capacity → slots_good ≡ true → s_keys_good ≡ true
-      → rest_good ≡ false → Err (Layout p NodeRest) ≡ inner_answer
-  unfolding inspect_inner_node
-  inner_rest a b c d e = let f = le-leb (entry_count_on (pages p)) shape.capacity b in rw (a, f, c, d, e)
-
-  pub inner_good :
-      children_good ≡ true → entry_count_on (pages p) ≤ shape.capacity → slots_good ≡ true → s_keys_good ≡ true
-      → rest_good ≡ true → Ok tt ≡ inner_answer
-  unfolding inspect_inner_node
-  inner_good a b c d e = let f = le-leb (entry_count_on (pages p)) shape.capacity b in rw (a, f, c, d, e)
-
 -- the parts of a page as the code takes them
 pub keys_part :
     (page rest : List ℕ) (c : ℕ) → rest ≡ drop 3 page → take (length rest - 2 * c) (drop (2 * c) rest) ≡ drop
@@ -244,3 +204,35 @@ zero_part page keys c w x e is =
 -- at most 8 children and keys of at most 24 bytes fit on a page
 pub keys_room : (c w : ℕ) → 1 ≤ c → c ≤ 8 → w ≤ 24 → 3 + 2 * c + (c - 1) * w ≤ 512
 keys_room c w some most wide = omega (arith, mul-le-mul {n₁ = c - 1} {n₂ = 7} (omega arith) wide)
+
+-- s-keys, taken off their bytes one by one
+pub key_first :
+    (w n : ℕ) (all key rest : List ℕ) → 1 ≤ w → all ≡ key ++ rest → length key ≡ w → length all ≡ n * w
+    → (k : ℕ) × (length rest ≡ k * w) × ((slots : List ℕ) → children_from w n slots all
+    ≡ more (word (take 2 slots)) key (children_from w k (drop 2 slots) rest))
+unfolding children_from
+key_first w zero all key rest some parts long whole =
+    absurd (omega (arith, ap length parts, length-append key rest, zero-mul w))
+key_first w (suc k) all key rest some parts long whole =
+    let e : suc k * w ≡ w + k * w = omega (arith, suc-mul k w) in
+    let front : take w all ≡ key = ap (take w) parts ∙ take_at key rest w long in
+    let after : drop w all ≡ rest = ap (drop w) parts ∙ drop_at key rest w long in
+    (k, omega (arith, ap length parts, length-append key rest, e, whole), λ slots. rw (front, after))
+
+-- where no s-key is left, the last child is
+pub key_none :
+    (w n : ℕ) (all : List ℕ) → length all < w → length all ≡ n * w
+    → (slots : List ℕ) → children_from w n slots all ≡ one (word (take 2 slots))
+unfolding children_from
+key_none w zero all short whole slots = refl
+key_none w (suc k) all short whole slots = absurd (omega (arith, suc-mul k w))
+
+pub keys_taken :
+    (w n : ℕ) (slots keys : List ℕ) → children_from w n slots (take (n * w) keys) ≡ children_from w n slots keys
+unfolding children_from
+keys_taken w zero slots keys = refl
+keys_taken w (suc n) slots keys =
+    let e : suc n * w ≡ w + n * w = omega (arith, suc-mul n w) in
+    let key : take w (take (w + n * w) keys) ≡ take w keys = take-take w (w + n * w) keys (omega arith) in
+    let others : drop w (take (w + n * w) keys) ≡ take (n * w) (drop w keys) = drop-take w (n * w) keys in
+    rw (e, key, others) (ap (more (word (take 2 slots)) (take w keys)) (keys_taken w n (drop 2 slots) (drop w keys)))

@@ -92,17 +92,10 @@ module _ (kind : Kind) (law : kinds.Lawful kind) (a : StoreState) (whole : store
   abbrev pub TreeBy : Header → Result Unit PageFault → StoreState → StoreState → Type 0
   TreeBy h r n b = TreeRead kind (page_at pages) h.shape h.used (h.levels - 1) h.root n b r
 
-  -- it is the one that the code makes with the numbers it took from the header
   pub tree_by :
-      (h : Header) (shape : Shape) (used height root : ℕ) (n b : StoreState) (r : Result Unit PageFault)
-      → shape ≡ h.shape → used ≡ h.used → height ≡ h.levels - 1 → root ≡ h.root → n.pages ≡ a.pages
-      → TreeRead kind (page_at n.pages) shape used height root n b r → TreeBy h r n b
-  tree_by h shape used height root n b r s u l t p x =
-      let x₁ = subst (λ ps. TreeRead kind (page_at ps) shape used height root n b r) p x in
-      let x₂ = subst (λ z. TreeRead kind (page_at a.pages) z used height root n b r) s x₁ in
-      let x₃ = subst (λ z. TreeRead kind (page_at a.pages) h.shape z height root n b r) u x₂ in
-      let x₄ = subst (λ z. TreeRead kind (page_at a.pages) h.shape h.used z root n b r) l x₃ in
-      subst (λ z. TreeRead kind (page_at a.pages) h.shape h.used (h.levels - 1) z n b r) t x₄
+      (h : Header) (n b : StoreState) (r : Result Unit PageFault) → n.pages ≡ a.pages
+      → TreeRead kind (page_at n.pages) h.shape h.used (h.levels - 1) h.root n b r → TreeBy h r n b
+  tree_by h n b r p x = subst (λ ps. TreeRead kind (page_at ps) h.shape h.used (h.levels - 1) h.root n b r) p x
 
   from_page_0 :
       (m : StoreState) (page : List ℕ) → WasRead a 0 m page

@@ -1,19 +1,27 @@
 -- A whole tree after the walk from its root: rule 12 is tested by the number of the slots listed.
-use Rattle.std.proofs.Common.{◌≡◌, ℕ, ◌*◌, ◌≤◌, Bool, true, false, eqb, List, [], ◌∷◌, length, Ok, Err, Result, sym, ap, ◌∙◌, subst, arith}
-use Rattle.std.proofs.lemmas.Bool.{eq-eqb, ne_eqb}
+use Rattle.std.proofs.Common.{◌≡◌, ℕ, ◌*◌, ◌≤◌, min, Bool, true, false, eqb, List, [], ◌∷◌, length, Ok, Err, Result, MatchResult, sym, refl, ap, ◌∙◌, subst, ⊎_elim, arith}
+use Rattle.std.proofs.lemmas.Bool.{cases_eq, eq-eqb, ne_eqb}
 use Rattle.records.specs.Kind.{Kind}
 use Rattle.stores.specs.Store.{StoreState}
 use Rattle.shape.specs.Shape.{Shape, slot_pages_of}
-use Rattle.tree.specs.Entries.{Low, least, High, most}
+use Rattle.tree.specs.Entries.{least, most}
 use Rattle.layout.specs.Checked.{Checked, test, then}
 use Rattle.layout.specs.Walk.{walk, walk_tree}
 use Rattle.layout.specs.declared.faults.PageFault.{PageFault}
 use Rattle.layout.specs.declared.faults.PageFault.TheVariants.{Layout}
+use Rattle.layout.specs.declared.faults.Rule.{Rule}
 use Rattle.layout.specs.declared.faults.Rule.TheVariants.{SlotsReached}
-use Rattle.inspect.specs.declared.node_page.Listed.{Listed}
+use Rattle.inspect.specs.declared.listed.Listed.{Listed}
 use Rattle.inspect.specs.Bounds.{told}
 use Rattle.stores.specs.Looked.{Looked}
 use Rattle.inspect.specs.Walked.{nodes_of, Ended}
+
+-- the code's test of a rule is that of the layout
+pub kept_is :
+    (holds : Bool) (p : ℕ) (rule : Rule) (r : Result Unit PageFault)
+    → MatchResult r (λ _. holds ≡ true) (λ f. (holds ≡ false) × (f ≡ Layout p rule)) → r ≡ test holds p rule (Ok tt)
+kept_is holds p rule (Ok x) h = rw h
+kept_is holds p rule (Err f) h = let b = h.0 in rw (b, h.1)
 
 module _ {A : Type 0} (W used : ℕ) (nodes : A → ℕ) (l : Listed) (a b : StoreState) where
   abbrev test_of : A → Bool → Checked A
@@ -38,23 +46,29 @@ module _ {A : Type 0} (W used : ℕ) (nodes : A → ℕ) (l : Listed) (a b : Sto
   tree_broken (Ok found) e r is h = let k = h.0 in let z : ◌≡◌ {A = ℕ} 0 1 = cc in absurd (omega arith)
   tree_broken (Err f) e r is h = (is ∙ h, λ t q. let z : ◌≡◌ {A = ℕ} 0 1 = cc in absurd (omega arith))
 
-  tree_unreached :
-      (x : Checked (A × List ℕ)) → used ≤ 1024 → (l.count ≡ used → ⊥) → Ended W nodes x (Ok tt) l a b
-      → TreeEnded (tree_of x) (Err (Layout 0 SlotsReached))
-  tree_unreached (Ok found) few ne h =
-      let n = length found.1 in
-      let e : eqb n used ≡ false = ne_eqb n used (λ z. ne (omega (arith, h.1.count, z))) in
-      (sym (ap (λ reached. told (test_of found.0 reached)) e), test_looked found.0 (eqb n used) h.2)
-  tree_unreached (Err f) few ne h = let z : ◌≡◌ {A = ℕ} 0 1 = cc in absurd (omega arith)
+  -- the count stops far above the number of used slots
+  count_same :
+      (count n : ℕ) → count ≡ min n 65535 → used ≤ 1024 → eqb n used ≡ eqb count used
+  count_same count n is few = ⊎_elim
+      (λ e. eq-eqb n used (omega arith) ∙ sym (eq-eqb count used e))
+      (λ ne. ne_eqb n used (λ e. ne (omega arith)) ∙ sym (ne_eqb count used ne))
+      (cases_eq count used)
 
-  tree_reached :
-      (x : Checked (A × List ℕ)) → used ≤ 1024 → l.count ≡ used → Ended W nodes x (Ok tt) l a b
-      → TreeEnded (tree_of x) (Ok tt)
-  tree_reached (Ok found) few is h =
+  told_of : (t : A) (reached : Bool) → told (test_of t reached) ≡ test reached 0 SlotsReached (Ok tt)
+  told_of t true = refl
+  told_of t false = refl
+
+  tree_walked :
+      (x : Checked (A × List ℕ)) (r : Result Unit PageFault) → used ≤ 1024
+      → r ≡ test (eqb l.count used) 0 SlotsReached (Ok tt) → Ended W nodes x (Ok tt) l a b
+      → TreeEnded (tree_of x) r
+  tree_walked (Ok found) r few is h =
       let n = length found.1 in
-      let e : eqb n used ≡ true = eq-eqb n used (omega (arith, h.1.count, is)) in
-      (sym (ap (λ reached. told (test_of found.0 reached)) e), test_looked found.0 (eqb n used) h.2)
-  tree_reached (Err f) few is h = let z : ◌≡◌ {A = ℕ} 0 1 = cc in absurd (omega arith)
+      let same = count_same l.count n h.1.count few in (
+        is ∙ ap (λ reached. test reached 0 SlotsReached (Ok tt)) (sym same) ∙ sym (told_of found.0 (eqb n used)),
+        test_looked found.0 (eqb n used) h.2,
+      )
+  tree_walked (Err f) r few is h = let z : ◌≡◌ {A = ℕ} 0 1 = cc in absurd (omega arith)
 
 module _
     (kind : Kind) (shape : Shape) (page : ℕ → List ℕ) (used h root : ℕ) (l : Listed) (a b : StoreState) where
@@ -69,23 +83,8 @@ module _
   unfolding walk_tree
   root_broken e r is d = tree_broken (slot_pages_of shape) used (nodes_of h) l a b _ e r is d
 
-  pub slots_unreached :
-      used ≤ 1024 → (l.count ≡ used → ⊥) → RootEnded (Ok tt) → WholeEnded (Err (Layout 0 SlotsReached))
+  pub root_walked :
+      (r : Result Unit PageFault) → used ≤ 1024 → r ≡ test (eqb l.count used) 0 SlotsReached (Ok tt)
+      → RootEnded (Ok tt) → WholeEnded r
   unfolding walk_tree
-  slots_unreached few ne d = tree_unreached (slot_pages_of shape) used (nodes_of h) l a b _ few ne d
-
-  pub slots_reached : used ≤ 1024 → l.count ≡ used → RootEnded (Ok tt) → WholeEnded (Ok tt)
-  unfolding walk_tree
-  slots_reached few is d = tree_reached (slot_pages_of shape) used (nodes_of h) l a b _ few is d
-
-  -- the walk in the range of all keys, as the code hands it on
-  pub root_ended :
-      (lo : Low (List ℕ)) (hi : High (List ℕ)) (r : Result Unit PageFault) → lo ≡ least → hi ≡ most
-      → Ended (slot_pages_of shape) (nodes_of h) (walk kind shape page used h 2 (root ∷ []) lo hi root) r l a b
-      → RootEnded r
-  root_ended lo hi r low high d =
-      let e : walk kind shape page used h 2 (root ∷ []) lo hi root
-      ≡ walk kind shape page used h 2 (root ∷ []) least most root =
-      ap (λ x. walk kind shape page used h 2 (root ∷ []) x hi root) low
-      ∙ ap (λ x. walk kind shape page used h 2 (root ∷ []) least x root) high in
-      subst (λ x. Ended (slot_pages_of shape) (nodes_of h) x r l a b) e d
+  root_walked r few is d = tree_walked (slot_pages_of shape) used (nodes_of h) l a b _ r few is d

@@ -1,5 +1,5 @@
 -- The walk over the nodes, step by step: what the parts of a node told, and what the walk therefore ends with.
-use Rattle.std.proofs.Common.{◌≡◌, ℕ, zero, suc, ◌+◌, ◌-◌, ◌*◌, ◌<◌, ◌≤◌, true, false, ◌&&◌, leb, List, length, take, drop, Ok, Err, Result, sym, refl, ap, ◌∙◌, subst, mul-le-mul_right, suc-mul, mul-add, arith}
+use Rattle.std.proofs.Common.{◌≡◌, ℕ, zero, suc, ◌+◌, ◌-◌, ◌*◌, ◌<◌, ◌≤◌, true, false, ◌&&◌, leb, List, length, take, drop, Ok, Err, Result, sym, ap, ◌∙◌, subst, mul-le-mul_right, suc-mul, mul-add, arith}
 use Rattle.std.proofs.lemmas.List.{length-drop, take_rest}
 use Rattle.records.specs.Bytes.{word}
 use Rattle.records.specs.Kind.{Kind}
@@ -28,25 +28,19 @@ use Rattle.layout.specs.Nodes.{
 use Rattle.layout.specs.Walk.{walk, walk_children}
 use Rattle.layout.specs.declared.faults.PageFault.{PageFault}
 use Rattle.layout.specs.declared.faults.Rule.TheVariants.{ChildCount, EntryCount, ChildSlots, SKeys, NodeRest}
-use Rattle.inspect.specs.declared.node_page.Listed.{Listed}
+use Rattle.inspect.specs.declared.listed.Listed.{Listed}
 use Rattle.inspect.specs.Bounds.{told}
 use Rattle.inspect.specs.Listed.{Lists, SlotsBelow}
 use Rattle.stores.specs.Looked.{Looked}
 use Rattle.inspect.specs.Walked.{nodes_of, nodes_of_all, Ended}
 use Rattle.inspect.proofs.LeafPagesTold.{told_test, four_tests}
-use Rattle.inspect.proofs.NodeTold.{keys_part, keys_room}
-use Rattle.stores.proofs.Looking.{looked_once, looked_then}
+use Rattle.inspect.proofs.NodeTold.{children_one, children_more, keys_part, keys_room}
+use Rattle.stores.proofs.Looking.{looked_more, looked_once, looked_then}
 
 -- the pages of a used slot are there
 pub slot_fits : (slot used W pages : ℕ) → slot < used → used * W < pages → 1 + slot * W + W ≤ pages
 slot_fits slot used W pages lt h =
     omega (arith, mul-le-mul_right {m = suc slot} {n = used} W (omega arith), suc-mul slot W)
-
-pub looked_more : (a b : StoreState) (m n : ℕ) → Looked a m b → m ≤ n → Looked a n b
-looked_more a b m n h le = record {
-  pages = h.pages;
-  touches = (h.touches.0, omega (arith, h.touches.1), h.touches.2);
-}
 
 -- what is told
 pub told_err : {A : Type 0} (x : Checked A) (e : PageFault) → Err e ≡ told x → x ≡ Err e
@@ -101,22 +95,6 @@ module _ {Y : Type 0} (W : ℕ) (nodes : Y → ℕ) where
   first_good sk rest (Ok found) r l n a m b h next =
       rest_ended found.0 sk (rest found.1) r n a m b h.2 (next found.1 h.1)
   first_good sk rest (Err e) r l n a m b h next = let z : ◌≡◌ {A = ℕ} 0 1 = cc in absurd (omega arith)
-
-pub children_one :
-    (w n : ℕ) (slots keys : List ℕ) → n ≡ 0 → children_from w n slots keys ≡ one (word (take 2 slots))
-unfolding children_from
-children_one w zero slots keys e = refl
-children_one w (suc n) slots keys e = absurd (omega arith)
-
-pub children_more :
-    (w n : ℕ) (slots keys : List ℕ) → 1 ≤ n
-    → children_from w n slots keys
-    ≡ more (word (take 2 slots)) (take w keys) (children_from w (n - 1) (drop 2 slots) (drop w keys))
-unfolding children_from
-children_more w zero slots keys h = absurd (omega arith)
-children_more w (suc n) slots keys h =
-    let e : n ≡ suc n - 1 = omega arith in
-    ap (λ m. more (word (take 2 slots)) (take w keys) (children_from w m (drop 2 slots) (drop w keys))) e
 
 pub below_first :
     (used w n : ℕ) (slots keys : List ℕ) → SlotsBelow used (children_from w n slots keys) → word (take 2 slots) < used
@@ -175,13 +153,12 @@ module _
 
   first_same :
       (fewest slot x : ℕ) → fewest ≡ least_children_of shape → word (take 2 slots) ≡ slot → x ≡ kind.key_width
-      → walk kind shape page used h fewest before lo (until (take (x - 0) keys)) slot
+      → walk kind shape page used h fewest before lo (until (take x keys)) slot
       ≡ walk kind shape page used h (least_children_of shape) before lo (until (take kind.key_width keys))
       (word (take 2 slots))
   first_same fewest slot x few is wide =
-      let y : x - 0 ≡ kind.key_width = omega arith in
-      ap (λ f. walk kind shape page used h f before lo (until (take (x - 0) keys)) slot) few
-      ∙ ap (λ i. walk kind shape page used h (least_children_of shape) before lo (until (take i keys)) slot) y
+      ap (λ f. walk kind shape page used h f before lo (until (take x keys)) slot) few
+      ∙ ap (λ i. walk kind shape page used h (least_children_of shape) before lo (until (take i keys)) slot) wide
       ∙ ap (walk kind shape page used h (least_children_of shape) before lo (until (take kind.key_width keys))) (sym is)
 
   -- the first of several children broke a rule
@@ -189,7 +166,7 @@ module _
       (fewest slot x : ℕ) (e : PageFault) (r : Result Unit PageFault) (l : Listed) (a b : StoreState) → 1 ≤ n
       → fewest ≡ least_children_of shape → word (take 2 slots) ≡ slot → x ≡ kind.key_width → r ≡ Err e
       → Ended (slot_pages_of shape) (nodes_of h)
-      (walk kind shape page used h fewest before lo (until (take (x - 0) keys)) slot) (Err e) l a b
+      (walk kind shape page used h fewest before lo (until (take x keys)) slot) (Err e) l a b
       → Ended (slot_pages_of shape) (nodes_of_all h) children_walk r l a b
   unfolding walk_children
   child_broken fewest slot x e r l a b some few is wide q d =
@@ -209,9 +186,9 @@ module _
       (fewest slot x : ℕ) (pages : ℕ → List ℕ) (r : Result Unit PageFault) (l m : Listed) (a s b : StoreState) → 1 ≤ n
       → fewest ≡ least_children_of shape → word (take 2 slots) ≡ slot → x ≡ kind.key_width → pages ≡ page
       → Ended (slot_pages_of shape) (nodes_of h)
-      (walk kind shape page used h fewest before lo (until (take (x - 0) keys)) slot) (Ok tt) l a s
+      (walk kind shape page used h fewest before lo (until (take x keys)) slot) (Ok tt) l a s
       → ((listed : List ℕ) → Lists l listed → Ended (slot_pages_of shape) (nodes_of_all h)
-      (walk_children (walk kind shape pages used h (least_children_of shape)) listed (from (take (x - 0) keys)) hi
+      (walk_children (walk kind shape pages used h (least_children_of shape)) listed (from (take x keys)) hi
       (children_from kind.key_width (n - 1) (take (length slots - 2) (drop 2 slots))
       (take (length keys - x) (drop x keys)))) r m s b)
       → Ended (slot_pages_of shape) (nodes_of_all h) children_walk r m a b
@@ -219,15 +196,14 @@ module _
   child_good fewest slot x pages r l m a s b some few is wide same d next =
       let W = slot_pages_of shape in
       let w = kind.key_width in
-      let y : x - 0 ≡ w = omega arith in
       let rest : (ℕ → List ℕ) → ℕ → List ℕ → SlotChildren → Checked (Children (List ℕ) (ByteTree h) × List ℕ) =
       λ pg i listed cs.
       walk_children (walk kind shape pg used h (least_children_of shape)) listed (from (take i keys)) hi cs in
       let given : SlotChildren = children_from w (n - 1) (take (length slots - 2) (drop 2 slots))
       (take (length keys - x) (drop x keys)) in
       let others : SlotChildren = children_from w (n - 1) (drop 2 slots) (drop w keys) in
-      let go : (listed : List ℕ) → rest pages (x - 0) listed given ≡ rest page w listed others = λ listed.
-      ap (λ pg. rest pg (x - 0) listed given) same ∙ ap (λ i. rest page i listed given) y
+      let go : (listed : List ℕ) → rest pages x listed given ≡ rest page w listed others = λ listed.
+      ap (λ pg. rest pg x listed given) same ∙ ap (λ i. rest page i listed given) wide
       ∙ ap (rest page w listed) (rest_children w x (n - 1) slots keys wide) in
       subst (λ cs. Ended W (nodes_of_all h)
       (walk_children (walk kind shape page used h (least_children_of shape)) before lo hi cs) r m a b)
@@ -266,20 +242,19 @@ module _
       ended_err W (nodes_of 0) r l a b _ e x q
 
   pub leaf_ended :
-      (h p n E : ℕ) (pages : ℕ → List ℕ) (r : Result Unit PageFault) (l : Listed) (a b : StoreState) → h ≡ 0
-      → p ≡ node_page_of shape slot → E ≡ shape.per_page → pages ≡ page → Ok n ≡ inspect_leaf_node kind shape page p
-      → r ≡ told (inspect_d_tree kind E pages true hi n lo (p + 1)) → Lists l before → Looked a W b
+      (h p n : ℕ) (pages : ℕ → List ℕ) (r : Result Unit PageFault) (l : Listed) (a b : StoreState) → h ≡ 0
+      → p ≡ node_page_of shape slot → pages ≡ page → Ok n ≡ inspect_leaf_node kind shape page p
+      → r ≡ told (inspect_d_tree kind shape.per_page pages true hi n lo (p + 1)) → Lists l before → Looked a W b
       → Ended W (nodes_of h) (walk kind shape page used h fewest before lo hi slot) r l a b
   unfolding walk
-  leaf_ended (suc h) p n E pages r l a b z at per same is q lists look = absurd (omega arith)
-  leaf_ended zero p n E pages r l a b z at per same is q lists look =
+  leaf_ended (suc h) p n pages r l a b z at same is q lists look = absurd (omega arith)
+  leaf_ended zero p n pages r l a b z at same is q lists look =
       let k : inspect_leaf_node kind shape page (node_page_of shape slot) ≡ Ok n =
       sym (is ∙ ap (inspect_leaf_node kind shape page) at) in
       let d = inspect_d_tree kind shape.per_page page true hi n lo (head_page_of shape slot) in
       let x : walk kind shape page used 0 fewest before lo hi slot ≡ leaf_of d = rw k in
-      let v : inspect_d_tree kind E pages true hi n lo (p + 1) ≡ d =
-      ap (λ i. inspect_d_tree kind i pages true hi n lo (p + 1)) per
-      ∙ ap (λ g. inspect_d_tree kind shape.per_page g true hi n lo (p + 1)) same
+      let v : inspect_d_tree kind shape.per_page pages true hi n lo (p + 1) ≡ d =
+      ap (λ g. inspect_d_tree kind shape.per_page g true hi n lo (p + 1)) same
       ∙ ap (λ i. inspect_d_tree kind shape.per_page page true hi n lo (i + 1)) at in
       ended_is W (nodes_of 0) r l a b _ _ (sym x) (leaf_of_lem d r l a b (q ∙ ap told v) lists look)
 
@@ -340,11 +315,10 @@ module _
       ended_err W (nodes_of (suc h)) r l a b _ e x q
 
   d_tree_same :
-      (p s E : ℕ) (pages : ℕ → List ℕ) → p ≡ node_page_of shape slot → E ≡ shape.per_page → pages ≡ page
-      → s ≡ entry_count_on (page p) → inspect_d_tree kind E pages false hi s lo (p + 1) ≡ d_tree
-  d_tree_same p s E pages at per same count =
-      ap (λ i. inspect_d_tree kind i pages false hi s lo (p + 1)) per
-      ∙ ap (λ g. inspect_d_tree kind shape.per_page g false hi s lo (p + 1)) same
+      (p s : ℕ) (pages : ℕ → List ℕ) → p ≡ node_page_of shape slot → pages ≡ page
+      → s ≡ entry_count_on (page p) → inspect_d_tree kind shape.per_page pages false hi s lo (p + 1) ≡ d_tree
+  d_tree_same p s pages at same count =
+      ap (λ g. inspect_d_tree kind shape.per_page g false hi s lo (p + 1)) same
       ∙ ap (λ i. inspect_d_tree kind shape.per_page page false hi i lo (p + 1)) count
       ∙ ap (λ i. inspect_d_tree kind shape.per_page page false hi (entry_count_on (page i)) lo (i + 1)) at
 
@@ -355,14 +329,14 @@ module _
   inner_d h (Err f) y e is = let q : f ≡ e = cc in ap Err q
 
   pub d_tree_broken :
-      (h p s E : ℕ) (pages : ℕ → List ℕ) (e : PageFault) (r : Result Unit PageFault) (l : Listed) (a b : StoreState)
-      → 1 ≤ h → p ≡ node_page_of shape slot → E ≡ shape.per_page → pages ≡ page → s ≡ entry_count_on (page p)
+      (h p s : ℕ) (pages : ℕ → List ℕ) (e : PageFault) (r : Result Unit PageFault) (l : Listed) (a b : StoreState)
+      → 1 ≤ h → p ≡ node_page_of shape slot → pages ≡ page → s ≡ entry_count_on (page p)
       → Ok tt ≡ told (inspect_inner_node kind shape page used fewest before lo hi p)
-      → Err e ≡ told (inspect_d_tree kind E pages false hi s lo (p + 1)) → r ≡ Err e
+      → Err e ≡ told (inspect_d_tree kind shape.per_page pages false hi s lo (p + 1)) → r ≡ Err e
       → Ended W (nodes_of h) (walk kind shape page used h fewest before lo hi slot) r l a b
-  d_tree_broken zero p s E pages e r l a b some at per same count good is q = absurd (omega arith)
-  d_tree_broken (suc h) p s E pages e r l a b some at per same count good is q =
-      let v = d_tree_same p s E pages at per same count in
+  d_tree_broken zero p s pages e r l a b some at same count good is q = absurd (omega arith)
+  d_tree_broken (suc h) p s pages e r l a b some at same count good is q =
+      let v = d_tree_same p s pages at same count in
       let d : d_tree ≡ Err e = told_err d_tree e (is ∙ ap told v) in
       ended_err W (nodes_of (suc h)) r l a b _ e (walk_inner h p at good ∙ inner_d h d_tree _ e d) q
 
@@ -380,29 +354,31 @@ module _
   inner_of_lem h (Err f) y r l a m b is look e = let z : ◌≡◌ {A = ℕ} 0 1 = cc in absurd (omega arith)
 
   pub inner_ended :
-      (h p s E : ℕ) (pages last : ℕ → List ℕ) (cs : SlotChildren) (r : Result Unit PageFault) (l : Listed)
-      (a m b : StoreState) → 1 ≤ h → p ≡ node_page_of shape slot → E ≡ shape.per_page → pages ≡ page → last ≡ page
+      (h p s : ℕ) (pages last : ℕ → List ℕ) (cs : SlotChildren) (r : Result Unit PageFault) (l : Listed)
+      (a m b : StoreState) → 1 ≤ h → p ≡ node_page_of shape slot → pages ≡ page → last ≡ page
       → s ≡ entry_count_on (page p) → cs ≡ children_on kind.key_width (page p)
       → Ok tt ≡ told (inspect_inner_node kind shape page used fewest before lo hi p)
-      → Ok tt ≡ told (inspect_d_tree kind E pages false hi s lo (p + 1)) → Looked a W m
+      → Ok tt ≡ told (inspect_d_tree kind shape.per_page pages false hi s lo (p + 1)) → Looked a W m
       → Ended W (nodes_of_all (h - 1))
       (walk_children (walk kind shape last used (h - 1) (least_children_of shape))
       (listed_after before (children_on kind.key_width (page p))) lo hi cs) r l m b
       → Ended W (nodes_of h) (walk kind shape page used h fewest before lo hi slot) r l a b
-  inner_ended zero p s E pages last cs r l a m b some at per same same₂ count are good is look e = absurd (omega arith)
-  inner_ended (suc h) p s E pages last cs r l a m b some at per same same₂ count are good is look e =
-      let v = d_tree_same p s E pages at per same count in
+  inner_ended zero p s pages last cs r l a m b some at same same₂ count are good is look e = absurd (omega arith)
+  inner_ended (suc h) p s pages last cs r l a m b some at same same₂ count are good is look e =
+      let v = d_tree_same p s pages at same count in
       let on = children_on kind.key_width (page p) in
       let down : suc h - 1 ≡ h = omega arith in
       let e₁ : Ended W (nodes_of_all h)
-      (walk_children (walk kind shape last used h (least_children_of shape)) (listed_after before on) lo hi cs) r l m b =
+      (walk_children (walk kind shape last used h (least_children_of shape)) (listed_after before on) lo hi cs)
+      r l m b =
       subst (λ i. Ended W (nodes_of_all i)
       (walk_children (walk kind shape last used i (least_children_of shape)) (listed_after before on) lo hi cs) r l m b)
       down e in
       let same_walk :
       walk_children (walk kind shape last used h (least_children_of shape)) (listed_after before on) lo hi cs
       ≡ below h on =
-      ap (λ pg. walk_children (walk kind shape pg used h (least_children_of shape)) (listed_after before on) lo hi cs) same₂
+      ap (λ pg. walk_children (walk kind shape pg used h (least_children_of shape)) (listed_after before on) lo hi cs)
+      same₂
       ∙ ap (walk_children (walk kind shape page used h (least_children_of shape)) (listed_after before on) lo hi) are in
       ended_is W (nodes_of (suc h)) r l a b _ _ (sym (walk_inner h p at good))
       (inner_of_lem h d_tree (below h on) r l a m b (is ∙ ap told v) look
@@ -415,26 +391,20 @@ page_there slot used w W pages lt h e some past =
     omega (arith, slot_fits slot used W pages lt h, ap (λ x. slot * x) e)
 
 pub d_tree_fits :
-    (slot used w σ s E per pages now : ℕ) → slot < used → used * (2 + ceiling σ E) < pages → w ≡ 2 + ceiling σ E
-    → per ≡ E → 1 ≤ E → s ≤ σ → now ≡ pages → 1 + slot * w + 1 + 1 + ceiling s per ≤ now
-d_tree_fits slot used w σ s E per pages now lt h e is some le same =
+    (slot used w σ s E pages now : ℕ) → slot < used → used * (2 + ceiling σ E) < pages → w ≡ 2 + ceiling σ E
+    → 1 ≤ E → s ≤ σ → now ≡ pages → 1 + slot * w + 1 + 1 + ceiling s E ≤ now
+d_tree_fits slot used w σ s E pages now lt h e some le same =
     let a = slot_fits slot used (2 + ceiling σ E) pages lt h in
     let b = ap (λ x. slot * x) e in
-    let c : ceiling s per ≡ ceiling s E = ap (ceiling s) is in
-    let d = ceiling_more s σ E some le in
-    omega (arith, a, b, c, d)
-
-pub records_fit : (per E x y : ℕ) → per ≡ E → x ≡ y → E * x ≤ 503 → per * y ≤ 503
-records_fit per E x y is e h = omega (arith, h, ap (λ i. i * y) is, ap (λ i. E * i) e)
+    omega (arith, a, b, ceiling_more s σ E some le)
 
 -- a node page and a d-tree were read
 pub slot_looked :
-    (a m b : StoreState) (σ s E per : ℕ) → m ≡ record { pages = a.pages; count = touched_once a.count }
-    → Looked m (1 + ceiling s per) b → per ≡ E → 1 ≤ E → s ≤ σ → Looked a (2 + ceiling σ E) b
-slot_looked a m b σ s E per read look is some le =
-    let c : ceiling s per ≡ ceiling s E = ap (ceiling s) is in
-    let d = ceiling_more s σ E some le in
-    looked_then a m b 1 (1 + ceiling s per) _ (looked_once a m 1 read (omega arith)) look (omega (arith, c, d))
+    (a m b : StoreState) (σ s E : ℕ) → m ≡ record { pages = a.pages; count = touched_once a.count }
+    → Looked m (1 + ceiling s E) b → 1 ≤ E → s ≤ σ → Looked a (2 + ceiling σ E) b
+slot_looked a m b σ s E read look some le =
+    looked_then a m b 1 (1 + ceiling s E) _ (looked_once a m 1 read (omega arith)) look
+    (omega (arith, ceiling_more s σ E some le))
 
 -- the parts of a node page are long enough for its children
 pub slots_long :
@@ -447,3 +417,11 @@ pub keys_long :
     → (c - 1) * w ≤ length (take (length rest - 2 * c) (drop (2 * c) rest))
 keys_long page rest c w e long some few wide =
     omega (arith, ap length (keys_part page rest c e), length-drop (3 + 2 * c) page, keys_room c w some few wide)
+
+-- the keys after the first
+pub rest_long :
+    (n w x : ℕ) (keys : List ℕ) → x ≡ w → 1 ≤ n → n * w ≤ length keys
+    → (n - 1) * w ≤ length (take (length keys - x) (drop x keys))
+rest_long n w x keys e some h =
+    let m : n ≡ suc (n - 1) = omega arith in
+    omega (arith, ap length (take_rest keys x), length-drop x keys, ap (λ i. i * w) m, suc-mul (n - 1) w)

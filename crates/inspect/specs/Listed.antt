@@ -4,7 +4,7 @@ use Rattle.std.specs.Prelude.{◌≡◌, ℕ, ◌<◌, ◌≤◌, min, false, Li
 use Rattle.shape.specs.Shape.{Shape}
 use Rattle.tree.specs.Children.{one, more}
 use Rattle.layout.specs.Nodes.{SlotChildren, times_in, child_count_on, entry_count_on, children_on}
-use Rattle.inspect.specs.declared.node_page.Listed.{Listed}
+use Rattle.inspect.specs.declared.listed.Listed.{Listed}
 
 pub record Lists (l : Listed) (listed : List ℕ) : Type 0 where
   pub flags : (slot : ℕ) → slot < 1024 → slice_index_or l.flags slot false ≡ nat_lt 0 (times_in slot listed)

@@ -2,6 +2,7 @@
 use Rattle.std.specs.Prelude.{ℕ, List, Ok, Err, Result, ◌==◌, slice_index}
 use Rattle.records.specs.Kind.{Kind, record_width}
 use Rattle.shape.specs.Shape.{legal}
+use Rattle.shape.specs.Made.{asked}
 use Rattle.layout.specs.Pages.{Header}
 use Rattle.layout.specs.Header.{header_of}
 use Rattle.layout.specs.Checked.{require}
@@ -17,11 +18,11 @@ use Rattle.inspect.specs.declared.page_0.HeaderParts.{HeaderParts}
 -- the numbers beside the kind's
 abbrev pub numbers_in : HeaderParts → Header
 numbers_in p = record {
-  shape = record { fanout = p.fanout; capacity = p.capacity; per_page = p.per_page };
-  levels = p.levels;
-  used = p.used;
-  root = p.root;
-  changes = p.changes;
+  shape = asked p.shape;
+  levels = p.numbers.levels;
+  used = p.numbers.used;
+  root = p.numbers.root;
+  changes = p.numbers.changes;
 }
 
 abbrev pub header_found : Result code.Header OpenFault → Result Header OpenFault

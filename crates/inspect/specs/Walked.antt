@@ -6,7 +6,7 @@ use Rattle.tree.specs.Tree.{slot_sum}
 use Rattle.layout.specs.Checked.{Checked}
 use Rattle.layout.specs.Holds.{ByteTree}
 use Rattle.layout.specs.declared.faults.PageFault.{PageFault}
-use Rattle.inspect.specs.declared.node_page.Listed.{Listed}
+use Rattle.inspect.specs.declared.listed.Listed.{Listed}
 use Rattle.inspect.specs.Listed.{Lists}
 use Rattle.stores.specs.Looked.{Looked}
 

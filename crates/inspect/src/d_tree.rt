@@ -3,61 +3,37 @@
 ghost use Rattle.std.specs.Prelude.{◌≡◌, ℕ, ◌+◌, ◌-◌, ◌*◌, ◌<◌, ◌≤◌, ◌&&◌, length, take, drop, ◌==◌, slice_index};
 ghost use Rattle.shape.specs.Shape.{ceiling};
 ghost use Rattle.layout.specs.Checked.{zeros};
-ghost use Rattle.records.specs.Kind.{record_width};
 ghost use Rattle.stores.specs.Store.{page_at};
 ghost use Rattle.layout.specs.LeafPages.{inspect_leaf_pages, inspect_d_tree};
-ghost use Rattle.inspect.specs.Bounds.{low_of, high_of, LowLong, HighLong, told, key_on};
+ghost use Rattle.inspect.specs.Bounds.{low_of, high_of, told};
 ghost use Rattle.stores.specs.Looked.{Looked};
 
-use crate::bounds::{High, Low};
-use crate::keys::all_zero;
-use crate::leaf_page::{inspect_leaf_page, key_at};
-use layout::{PageFault, Rule};
+use crate::leaf_page::inspect_leaf_page;
+use crate::range::KeyRange;
+use crate::rules::all_zero;
+use layout::{PageFault, Row, Rule};
 use records::RecordKind;
-use stores::PageStore;
-
-// The widest key there is.
-const WIDEST_KEY: usize = 24;
-
-// The key of the last of t entries, at the start of an array.
-fn last_key<K: RecordKind>(kind: &K, page: &[u8; 512], t: usize) -> [u8; 24]
-    requires some { 1 ≤ t }
-    requires room { 9 + t * record_width (K.model kind.now) ≤ 512 }
-    ensures { take (K.model kind.now).key_width result ≡ key_on (K.model kind.now)
-        page.now (t - 1) }
-{
-    let mut last = [0; WIDEST_KEY];
-    let key = key_at(kind, page, t - 1);
-    let w = key.len();
-    last[0..w].copy_from_slice(key);
-    last
-}
+use stores::{Page, PageStore};
 
 // Inspects n leaf pages with s entries from page p on; `firsts` are the bytes of the head page from the first of their
-// keys on. It calls itself for the next page, so that each page's last key stays for the one after.
+// keys on. It calls itself for the next page, which is compared with this page's last key where that stands: a loop
+// would have to copy the key out.
 fn inspect_leaf_pages<S: PageStore, K: RecordKind>(
     store: &mut S,
-    kind: &K,
-    per_page: usize,
+    range: KeyRange<'_, K>,
     leaf: bool,
-    high: High<'_>,
     n: usize,
     s: usize,
-    low: Low<'_>,
     firsts: &[u8],
     p: u32,
 ) -> Result<(), PageFault>
-    requires some { 1 ≤ per_page }
-    requires few { per_page ≤ 64 }
-    requires fits { per_page * record_width (K.model kind.now) ≤ 503 }
-    requires high { HighLong (K.model kind.now).key_width high }
-    requires low { LowLong (K.model kind.now).key_width low }
-    requires entries { n * per_page < s + per_page }
-    requires keys { n * (K.model kind.now).key_width ≤ length firsts.now }
+    requires entries { n * range.ground.shape.per_page < s + range.ground.shape.per_page }
+    requires keys { n * (K.model range.ground.kind.now).key_width ≤ length firsts.now }
     requires pages { p + n ≤ length (S.state store.old).pages }
     ensures answer { result ≡ told
-        (inspect_leaf_pages (K.model kind.now) per_page (page_at (S.state store.old).pages)
-        leaf (high_of high.entry) n s (low_of low.entry) firsts.now p) }
+        (inspect_leaf_pages (K.model range.entry.ground.kind.now) range.entry.ground.shape.per_page
+        (page_at (S.state store.old).pages)
+        leaf (high_of range.entry.high) n s (low_of range.entry.low) firsts.now p) }
     ensures looked { Looked (S.state store.old) n (S.state store.new) }
 {
     if n == 0 {
@@ -65,27 +41,26 @@ fn inspect_leaf_pages<S: PageStore, K: RecordKind>(
     }
     let mut page = [0; 512];
     store.read(p, &mut page)?;
+    let per_page = range.ground.shape.per_page() as usize;
     let t = per_page.min(s);
-    let w = kind.key_width();
-    inspect_leaf_page(kind, leaf, t, low, high, &firsts[0..w], p, &page)?;
-    let last = last_key(kind, &page, t);
+    let w = range.ground.kind.key_width();
+    inspect_leaf_page(range, leaf, t, &firsts[..w], p, &page)?;
+    let row = Row::of_entries(range.ground.kind, &page, t);
+    let last = row.key(t - 1);
     let rest = s.saturating_sub(per_page);
     inspect_leaf_pages(
         store,
-        kind,
-        per_page,
+        range.past(last),
         leaf,
-        high,
         n - 1,
         rest,
-        Low::Past(&last[0..w]),
         &firsts[w..],
         p + 1,
     )
 }
 
 // Whether the head page counts so many leaf pages and is zero behind their first keys.
-fn is_good_head<K: RecordKind>(kind: &K, head: &[u8; 512], filled: usize) -> bool
+fn is_good_head<K: RecordKind>(kind: &K, head: &Page, filled: usize) -> bool
     requires { filled ≤ 16 }
     ensures { result ≡ ((slice_index head.now 0 == filled)
         && zeros (drop (1 + filled * (K.model kind.now).key_width) head.now)) }
@@ -95,49 +70,26 @@ fn is_good_head<K: RecordKind>(kind: &K, head: &[u8; 512], filled: usize) -> boo
 }
 
 // Inspects the d-tree of s entries whose head page is p.
+#[tactic(auto, unfolding(layout::specs::LeafPages::inspect_d_tree))]
 pub(crate) fn inspect_d_tree<S: PageStore, K: RecordKind>(
     store: &mut S,
-    kind: &K,
-    per_page: usize,
+    range: KeyRange<'_, K>,
     leaf: bool,
-    high: High<'_>,
     s: usize,
-    low: Low<'_>,
     p: u32,
 ) -> Result<(), PageFault>
-    requires some { 1 ≤ per_page }
-    requires few { per_page ≤ 64 }
-    requires fits { per_page * record_width (K.model kind.now) ≤ 503 }
-    requires entries { (s ≤ 256) × (ceiling s per_page ≤ 16) }
-    requires high { HighLong (K.model kind.now).key_width high }
-    requires low { LowLong (K.model kind.now).key_width low }
-    requires pages { p + 1 + ceiling s per_page ≤ length (S.state store.old).pages }
+    requires entries { s ≤ range.ground.shape.capacity }
+    requires pages { p + 1 + ceiling s range.ground.shape.per_page ≤ length (S.state store.old).pages }
     ensures answer { result ≡ told
-        (inspect_d_tree (K.model kind.now) per_page (page_at (S.state store.old).pages)
-        leaf (high_of high.entry) s (low_of low.entry) p) }
-    ensures looked { Looked (S.state store.old) (1 + ceiling s per_page)
+        (inspect_d_tree (K.model range.entry.ground.kind.now) range.entry.ground.shape.per_page
+        (page_at (S.state store.old).pages)
+        leaf (high_of range.entry.high) s (low_of range.entry.low) p) }
+    ensures looked { Looked (S.state store.old) (1 + ceiling s range.entry.ground.shape.per_page)
         (S.state store.new) }
 {
-    let filled = (s + (per_page - 1)) / per_page;
+    let filled = range.ground.shape.pages_of(s);
     let mut head = [0; 512];
     store.read(p, &mut head)?;
-    if !is_good_head(kind, &head, filled) {
-        return Err(PageFault::Layout {
-            page: p,
-            rule: Rule::HeadPage,
-        });
-    }
-    let bytes: &[u8] = &head;
-    inspect_leaf_pages(
-        store,
-        kind,
-        per_page,
-        leaf,
-        high,
-        filled,
-        s,
-        low,
-        &bytes[1..],
-        p + 1,
-    )
+    Rule::HeadPage.keep(is_good_head(range.ground.kind, &head, filled), p)?;
+    inspect_leaf_pages(store, range, leaf, filled, s, &head[1..], p + 1)
 }

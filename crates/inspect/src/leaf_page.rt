@@ -1,64 +1,27 @@
 // The inspection of one leaf page: rules 8 to 11.
-ghost use Rattle.std.specs.Prelude.{◌≡◌, ℕ, ◌+◌, ◌*◌, ◌≤◌, cond, length, drop};
+ghost use Rattle.std.specs.Prelude.{◌≡◌, ◌+◌, ◌*◌, ◌≤◌, length, take, drop};
+ghost use Rattle.std.specs.Slice.Iter.{chunks_exact_rest, chunks_exact_size};
 ghost use Rattle.records.specs.Kind.{record_width};
 ghost use Rattle.layout.specs.Checked.{zeros};
 ghost use Rattle.layout.specs.LeafPages.{raw_entries_on, good_marks, good_keys, good_first, good_value};
 ghost use Rattle.layout.specs.LeafPages.{good_values, inspect_leaf_page};
-ghost use Rattle.inspect.specs.Bounds.{low_of, high_of, LowLong, HighLong, told, key_on, value_on};
+ghost use Rattle.inspect.specs.Bounds.{low_of, high_of, told};
 
-use crate::bounds::{High, Low};
-use crate::keys::{all_zero, is_good_key};
-use layout::{PageFault, Rule, mark_word};
+use crate::range::KeyRange;
+use crate::rules::all_zero;
+use layout::{ENTRIES_AT, PageFault, Row, Rule, mark_word};
 use records::RecordKind;
+use std::slice::ChunksExact;
 use stores::Page;
 
-// Entries begin behind the count and the mark word.
-const ENTRIES_AT: usize = 9;
-
-// The key of entry i.
-pub(crate) fn key_at<'a, K: RecordKind>(kind: &K, page: &'a Page, i: usize) -> &'a [u8]
-    requires { 9 + (i * record_width (K.model kind.now) + record_width (K.model kind.now)) ≤ 512 }
-    ensures key { result.now ≡ key_on (K.model kind.now) page.now i }
-    ensures long { length result.now ≡ (K.model kind.now).key_width }
-{
-    let bytes: &[u8] = page;
-    let at = ENTRIES_AT + i * kind.record_width();
-    &bytes[at..at + kind.key_width()]
-}
-
-// The value bytes of entry i.
-fn value_at<'a, K: RecordKind>(kind: &K, page: &'a Page, i: usize) -> &'a [u8]
-    requires { 9 + (i * record_width (K.model kind.now) + record_width (K.model kind.now)) ≤ 512 }
-    ensures { result.now ≡ value_on (K.model kind.now) page.now i }
-{
-    let bytes: &[u8] = page;
-    let at = ENTRIES_AT + i * kind.record_width() + kind.key_width();
-    &bytes[at..at + kind.value_width()]
-}
-
-// Whether the keys of the first t entries are valid, ascend and lie in the range.
-fn are_good_keys<'a, K: RecordKind>(
-    kind: &K,
-    page: &'a Page,
-    t: usize,
-    low: Low<'a>,
-    high: High<'_>,
-) -> bool
-    requires low { LowLong (K.model kind.now).key_width low }
-    requires high { HighLong (K.model kind.now).key_width high }
-    requires room { 9 + t * record_width (K.model kind.now) ≤ 512 }
-    ensures { result ≡ good_keys (K.model kind.now) (low_of low.entry) (high_of high.entry)
-        (raw_entries_on (K.model kind.now) t page.now) }
-{
-    let mut bound = low;
-    for i in 0..t {
-        let key = key_at(kind, page, i);
-        if !is_good_key(kind, bound, high, key) {
-            return false;
-        }
-        bound = Low::Past(key);
-    }
-    true
+// A leaf page that is to have so many entries, with keys in a range.
+#[derive(Drop)]
+pub(crate) struct LeafPage<'a, K: RecordKind> {
+    pub range: KeyRange<'a, K>,
+    pub page: &'a Page,
+    pub count: usize,
+    ghost whole: { length page.now ≡ 512 },
+    ghost room: { 9 + count * record_width (K.model range.ground.kind.now) ≤ 512 },
 }
 
 // No bit is set at or above place t, and none at all in a leaf node.
@@ -83,86 +46,103 @@ fn is_good_value<K: RecordKind>(kind: &K, marked: bool, value: &[u8]) -> bool
     }
 }
 
-// Whether live values are valid and those of tombstones zero.
-fn are_good_values<K: RecordKind>(kind: &K, page: &Page, t: usize) -> bool
-    requires few { t ≤ 64 }
-    requires room { 9 + t * record_width (K.model kind.now) ≤ 512 }
-    ensures { result ≡ good_values (K.model kind.now)
-        (raw_entries_on (K.model kind.now) t page.now) }
-{
-    let marks = mark_word(page);
-    for i in 0..t {
-        let marked = (marks >> i) % 2 == 1;
-        if !is_good_value(kind, marked, value_at(kind, page, i)) {
-            return false;
+impl<'a, K: RecordKind> LeafPage<'a, K> {
+    // The bytes of the entries, one by one.
+    fn entries(&self) -> ChunksExact<'a, u8>
+        ensures rest { chunks_exact_rest result
+            ≡ take (self.now.count * record_width (K.model self.now.range.ground.kind.now))
+            (drop 9 self.now.page.now) }
+        ensures size { chunks_exact_size result ≡ record_width (K.model self.now.range.ground.kind.now) }
+    {
+        let width = self.range.ground.kind.record_width();
+        let page = self.page;
+        let bytes: &[u8] = page;
+        bytes[ENTRIES_AT..ENTRIES_AT + self.count * width].chunks_exact(width)
+    }
+
+    // Whether the keys are valid, ascend and lie in the range.
+    fn has_good_keys(&self) -> bool
+        ensures { result ≡ good_keys (K.model self.now.range.ground.kind.now)
+            (low_of self.now.range.low) (high_of self.now.range.high)
+            (raw_entries_on (K.model self.now.range.ground.kind.now) self.now.count self.now.page.now) }
+    {
+        let w = self.range.ground.kind.key_width();
+        let mut rest = self.range;
+        for entry in self.entries() {
+            let (key, _) = entry.split_at(w);
+            if !rest.contains(key) {
+                return false;
+            }
+            rest = rest.past(key);
         }
+        true
     }
-    true
-}
 
-// Whether the first key is the one that the head page names.
-fn is_good_first<K: RecordKind>(kind: &K, page: &Page, t: usize, first: &[u8]) -> bool
-    requires { 9 + t * record_width (K.model kind.now) ≤ 512 }
-    ensures { result ≡ good_first first.now
-        (raw_entries_on (K.model kind.now) t page.now) }
-{
-    if t == 0 {
-        return true;
+    // Whether live values are valid and those of tombstones zero.
+    fn has_good_values(&self) -> bool
+        ensures { result ≡ good_values (K.model self.now.range.ground.kind.now)
+            (raw_entries_on (K.model self.now.range.ground.kind.now) self.now.count self.now.page.now) }
+    {
+        let kind = self.range.ground.kind;
+        let mut marks = mark_word(self.page);
+        let w = kind.key_width();
+        for entry in self.entries() {
+            let (_, value) = entry.split_at(w);
+            if !is_good_value(kind, marks % 2 == 1, value) {
+                return false;
+            }
+            marks /= 2;
+        }
+        true
     }
-    key_at(kind, page, 0) == first
-}
 
-fn is_rest_zero<K: RecordKind>(kind: &K, page: &Page, t: usize) -> bool
-    requires { 9 + t * record_width (K.model kind.now) ≤ 512 }
-    ensures { result ≡ zeros (drop (9 + t * record_width (K.model kind.now)) page.now) }
-{
-    let bytes: &[u8] = page;
-    all_zero(&bytes[ENTRIES_AT + t * kind.record_width()..])
+    // Whether the first key is the one that the head page names.
+    fn begins_with(&self, first: &[u8]) -> bool
+        ensures { result ≡ good_first first.now
+            (raw_entries_on (K.model self.now.range.ground.kind.now) self.now.count self.now.page.now) }
+    {
+        let row = Row::of_entries(self.range.ground.kind, self.page, self.count);
+        self.count == 0 || row.key(0) == first
+    }
+
+    // Whether the bytes behind the entries are zero.
+    fn ends_in_zeros(&self) -> bool
+        ensures { result ≡ zeros (drop (9 + self.now.count * record_width
+            (K.model self.now.range.ground.kind.now)) self.now.page.now) }
+    {
+        let page = self.page;
+        let bytes: &[u8] = page;
+        all_zero(&bytes[ENTRIES_AT + self.count * self.range.ground.kind.record_width()..])
+    }
 }
 
 // Inspects page p, which is to have t entries; `first` is the key that the head page names, `leaf` whether the node is
 // a leaf node.
+#[tactic(auto, unfolding(layout::specs::LeafPages::inspect_leaf_page))]
 pub(crate) fn inspect_leaf_page<'a, K: RecordKind>(
-    kind: &K,
+    range: KeyRange<'a, K>,
     leaf: bool,
     t: usize,
-    low: Low<'a>,
-    high: High<'_>,
     first: &[u8],
     p: u32,
     page: &'a Page,
 ) -> Result<(), PageFault>
-    requires few { t ≤ 64 }
-    requires low { LowLong (K.model kind.now).key_width low }
-    requires high { HighLong (K.model kind.now).key_width high }
-    requires room { 9 + t * record_width (K.model kind.now) ≤ 512 }
-    ensures { result ≡ told (inspect_leaf_page (K.model kind.now) leaf t (low_of low.entry)
-        (high_of high.entry)
+    requires { t ≤ range.ground.shape.per_page }
+    ensures { result ≡ told (inspect_leaf_page (K.model range.entry.ground.kind.now) leaf t
+        (low_of range.entry.low)
+        (high_of range.entry.high)
         first.now p page.now) }
 {
-    if page[0] as usize != t {
-        return Err(PageFault::Layout {
-            page: p,
-            rule: Rule::LeafCount,
-        });
-    }
-    if !are_good_marks(leaf, t as u32, mark_word(page)) {
-        return Err(PageFault::Layout {
-            page: p,
-            rule: Rule::Marks,
-        });
-    }
-    if !(are_good_keys(kind, page, t, low, high) & is_good_first(kind, page, t, first)) {
-        return Err(PageFault::Layout {
-            page: p,
-            rule: Rule::Keys,
-        });
-    }
-    if !(are_good_values(kind, page, t) & is_rest_zero(kind, page, t)) {
-        return Err(PageFault::Layout {
-            page: p,
-            rule: Rule::Values,
-        });
-    }
-    Ok(())
+    Rule::LeafCount.keep(page[0] as usize == t, p)?;
+    let marks = are_good_marks(leaf, t as u32, mark_word(page));
+    Rule::Marks.keep(marks, p)?;
+    let leaf_page = LeafPage {
+        range,
+        page,
+        count: t,
+    };
+    let keys = leaf_page.has_good_keys() & leaf_page.begins_with(first);
+    Rule::Keys.keep(keys, p)?;
+    let values = leaf_page.has_good_values() & leaf_page.ends_in_zeros();
+    Rule::Values.keep(values, p)
 }

@@ -3,12 +3,13 @@
 // inspection says. It asks nothing of the bytes on a page. It uses the layout, the stores and the record kinds.
 #![tactic(auto)]
 
-pub mod bounds;
 mod d_tree;
-mod keys;
 mod leaf_page;
+mod listed;
 mod node_page;
 mod page_0;
+mod range;
+mod rules;
 mod walk;
 mod whole_store;
 mod whole_tree;

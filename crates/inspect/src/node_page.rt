@@ -5,25 +5,16 @@ ghost use Rattle.shape.specs.Made.{chosen};
 ghost use Rattle.layout.specs.Nodes.{children_from, children_on};
 ghost use Rattle.layout.specs.Nodes.{good_slots, good_s_keys, listed_after};
 ghost use Rattle.layout.specs.Nodes.{inspect_leaf_node, inspect_inner_node};
-ghost use Rattle.inspect.specs.Bounds.{low_of, high_of, LowLong, HighLong, told};
+ghost use Rattle.inspect.specs.Bounds.{low_of, high_of, told};
 ghost use Rattle.inspect.specs.Listed.{Lists, SlotsBelow, GoodInner};
 
-use crate::bounds::{High, Low};
-use crate::keys::{all_zero, is_good_key};
+use crate::listed::Listed;
+use crate::range::KeyRange;
+use crate::rules::all_zero;
 use layout::{PageFault, Rule, node_parts};
 use records::RecordKind;
 use shape::Shape;
 use stores::Page;
-
-// The count of listed slots stops here; no index has as many.
-const MOST_COUNTED: usize = 65_535;
-
-// The slots listed so far in a walk: whether each was, and how many.
-#[derive(Drop)]
-pub(crate) struct Listed {
-    pub flags: [bool; 1024],
-    pub count: usize,
-}
 
 // Whether n + 1 slots are used ones and none was listed before; if so, they are listed now.
 pub(crate) fn list_slots(slots: &[u8], n: usize, used: usize, listed: &mut Listed) -> bool
@@ -36,131 +27,79 @@ pub(crate) fn list_slots(slots: &[u8], n: usize, used: usize, listed: &mut Liste
         × (result ≡ true → Lists listed.new
         (listed_after before (children_from w n slots.now s_keys))) }
 {
-    let slot = slots[0] as usize * 256 + slots[1] as usize;
-    if slot >= used {
-        return false;
+    let (pairs, _) = slots.as_chunks::<2>();
+    for pair in &pairs[..n + 1] {
+        let slot = u16::from_be_bytes(*pair) as usize;
+        if slot >= used || !listed.list(slot) {
+            return false;
+        }
     }
-    if listed.flags[slot] {
-        return false;
-    }
-    listed.flags[slot] = true;
-    listed.count = listed.count.saturating_add(1).min(MOST_COUNTED);
-    if n == 0 {
-        true
-    } else {
-        list_slots(&slots[2..], n - 1, used, listed)
-    }
+    true
 }
 
-// Whether n s-keys are valid, ascend and lie in the range.
-pub(crate) fn are_good_s_keys<K: RecordKind>(
-    kind: &K,
-    low: Low<'_>,
-    high: High<'_>,
-    n: usize,
-    keys: &[u8],
-) -> bool
-    requires low { LowLong (K.model kind.now).key_width low }
-    requires high { HighLong (K.model kind.now).key_width high }
-    requires long { n * (K.model kind.now).key_width ≤ length keys.now }
-    ensures { (slots : List ℕ) → result ≡ good_s_keys (K.model kind.now) (low_of low.entry)
-        (high_of high.entry)
-        (children_from (K.model kind.now).key_width n slots keys.now) }
+// Whether n s-keys are valid, ascend and lie in the range. The loop is that of a leaf page's keys: one for both would
+// need a definition of its own, since one clause speaks of entries and the other of children.
+fn are_good_s_keys<'a, K: RecordKind>(range: KeyRange<'a, K>, n: usize, keys: &'a [u8]) -> bool
+    requires { n * (K.model range.ground.kind.now).key_width ≤ length keys.now }
+    ensures { (slots : List ℕ) → result ≡ good_s_keys (K.model range.entry.ground.kind.now)
+        (low_of range.entry.low)
+        (high_of range.entry.high)
+        (children_from (K.model range.entry.ground.kind.now).key_width n slots keys.now) }
 {
-    if n == 0 {
-        return true;
+    let w = range.ground.kind.key_width();
+    let mut rest = range;
+    for key in keys[..n * w].chunks_exact(w) {
+        if !rest.contains(key) {
+            return false;
+        }
+        rest = rest.past(key);
     }
-    let w = kind.key_width();
-    let key = &keys[0..w];
-    is_good_key(kind, low, high, key)
-        && are_good_s_keys(kind, Low::Past(key), high, n - 1, &keys[w..])
+    true
 }
 
 // Inspects the node page p of a leaf node, and tells the number of its entries.
+#[tactic(auto, unfolding(layout::specs::Nodes::inspect_leaf_node))]
 pub(crate) fn inspect_leaf_node(page: &Page, shape: Shape, p: u32) -> Result<usize, PageFault>
     ensures few { IfOk result (λ s. s ≤ (chosen shape).capacity) }
     ensures answer { (kind : Kind) (pages : ℕ → List ℕ) → pages p ≡ page.now
         → result ≡ inspect_leaf_node kind (chosen shape) pages p }
 {
     let parts = node_parts(page);
-    if parts.children != 0 {
-        return Err(PageFault::Layout {
-            page: p,
-            rule: Rule::ChildCount,
-        });
-    }
-    if parts.entries > shape.capacity() as usize {
-        return Err(PageFault::Layout {
-            page: p,
-            rule: Rule::EntryCount,
-        });
-    }
-    if !all_zero(parts.rest) {
-        return Err(PageFault::Layout {
-            page: p,
-            rule: Rule::NodeRest,
-        });
-    }
+    Rule::ChildCount.keep(parts.children == 0, p)?;
+    Rule::EntryCount.keep(parts.entries <= shape.capacity() as usize, p)?;
+    Rule::NodeRest.keep(all_zero(parts.rest), p)?;
     Ok(parts.entries)
 }
 
 // Inspects the node page p of an inner node, which has at least `fewest` children, and lists their slots.
+#[tactic(auto, unfolding(layout::specs::Nodes::inspect_inner_node))]
 pub(crate) fn inspect_inner_node<K: RecordKind>(
-    kind: &K,
-    shape: Shape,
+    range: KeyRange<'_, K>,
     page: &Page,
-    used: usize,
     fewest: usize,
     listed: &mut Listed,
-    low: Low<'_>,
-    high: High<'_>,
     p: u32,
 ) -> Result<(), PageFault>
-    requires some { 1 ≤ fewest }
-    requires few { used ≤ 1024 }
-    requires low { LowLong (K.model kind.now).key_width low }
-    requires high { HighLong (K.model kind.now).key_width high }
-    ensures good { result ≡ Result.Ok tt → GoodInner (K.model kind.now).key_width (chosen shape) used fewest
-        page.now }
+    requires { 1 ≤ fewest }
+    ensures good { result ≡ Result.Ok tt → GoodInner (K.model range.entry.ground.kind.now).key_width
+        (chosen range.entry.ground.shape) range.entry.ground.used fewest page.now }
     ensures answer { (pages : ℕ → List ℕ) (before : List ℕ) → pages p ≡ page.now → Lists
         listed.old before
-        → (result ≡ told (inspect_inner_node (K.model kind.now) (chosen shape) pages used fewest before
-        (low_of low.entry) (high_of high.entry) p))
-        × (result ≡ Result.Ok tt → Lists listed.new
-        (listed_after before (children_on (K.model kind.now).key_width page.now))) }
+        → (result ≡ told (inspect_inner_node (K.model range.entry.ground.kind.now)
+        (chosen range.entry.ground.shape) pages range.entry.ground.used fewest before
+        (low_of range.entry.low) (high_of range.entry.high) p))
+        × (result ≡ Result.Ok tt → Lists listed.new (listed_after before
+        (children_on (K.model range.entry.ground.kind.now).key_width page.now))) }
 {
+    let ground = range.ground;
     let parts = node_parts(page);
     let c = parts.children;
-    if !((fewest <= c) & (c <= shape.fanout() as usize)) {
-        return Err(PageFault::Layout {
-            page: p,
-            rule: Rule::ChildCount,
-        });
-    }
-    if parts.entries > shape.capacity() as usize {
-        return Err(PageFault::Layout {
-            page: p,
-            rule: Rule::EntryCount,
-        });
-    }
-    if !list_slots(parts.rest, c - 1, used, listed) {
-        return Err(PageFault::Layout {
-            page: p,
-            rule: Rule::ChildSlots,
-        });
-    }
+    let fits = (fewest <= c) & (c <= ground.shape.fanout() as usize);
+    Rule::ChildCount.keep(fits, p)?;
+    Rule::EntryCount.keep(parts.entries <= ground.shape.capacity() as usize, p)?;
+    Rule::ChildSlots.keep(list_slots(parts.rest, c - 1, ground.used, listed), p)?;
     let keys = &parts.rest[2 * c..];
-    if !are_good_s_keys(kind, low, high, c - 1, keys) {
-        return Err(PageFault::Layout {
-            page: p,
-            rule: Rule::SKeys,
-        });
-    }
-    if !all_zero(&keys[(c - 1) * kind.key_width()..]) {
-        return Err(PageFault::Layout {
-            page: p,
-            rule: Rule::NodeRest,
-        });
-    }
-    Ok(())
+    Rule::SKeys.keep(are_good_s_keys(range, c - 1, keys), p)?;
+    let rest = &keys[(c - 1) * ground.kind.key_width()..];
+    Rule::NodeRest.keep(all_zero(rest), p)
 }

@@ -4,7 +4,7 @@ ghost use Rattle.layout.specs.Inspection.{header_on};
 ghost use Rattle.records.specs.Kind.{record_width};
 ghost use Rattle.inspect.specs.Page0.{numbers_in, header_found, inspect_header};
 
-use crate::keys::all_zero;
+use crate::rules::all_zero;
 use layout::{Header, HeaderNumbers, OpenFault, PageFault, Rule};
 use records::RecordKind;
 use shape::{Shape, ShapeNumbers};
@@ -20,13 +20,8 @@ const BAD_NUMBERS: OpenFault = OpenFault::Page(PageFault::Layout {
 #[derive(Clone, Copy)]
 pub(crate) struct HeaderParts<'a> {
     pub kind: u8,
-    pub fanout: u8,
-    pub capacity: u16,
-    pub per_page: u8,
-    pub levels: u8,
-    pub used: u16,
-    pub root: u16,
-    pub changes: u32,
+    pub shape: ShapeNumbers,
+    pub numbers: HeaderNumbers,
     pub rest: &'a [u8],
 }
 
@@ -58,13 +53,17 @@ pub(crate) fn header_parts<'a>(page: &'a Page) -> HeaderParts<'a>
     };
     HeaderParts {
         kind: *kind,
-        fanout: *fanout,
-        capacity: u16::from_be_bytes([*c1, *c0]),
-        per_page: *per_page,
-        levels: *levels,
-        used: u16::from_be_bytes([*u1, *u0]),
-        root: u16::from_be_bytes([*r1, *r0]),
-        changes: u32::from_be_bytes([*n3, *n2, *n1, *n0]),
+        shape: ShapeNumbers {
+            fanout: (*fanout).into(),
+            capacity: u16::from_be_bytes([*c1, *c0]).into(),
+            per_page: (*per_page).into(),
+        },
+        numbers: HeaderNumbers {
+            levels: *levels,
+            used: u16::from_be_bytes([*u1, *u0]),
+            root: u16::from_be_bytes([*r1, *r0]),
+            changes: u32::from_be_bytes([*n3, *n2, *n1, *n0]),
+        },
         rest,
     }
 }
@@ -78,25 +77,8 @@ pub(crate) fn inspect_header<K: RecordKind>(kind: &K, page: &Page) -> Result<Hea
     if parts.kind != kind.number() {
         return Err(OpenFault::OtherKind);
     }
-    let asked = ShapeNumbers {
-        fanout: parts.fanout.into(),
-        capacity: parts.capacity.into(),
-        per_page: parts.per_page.into(),
-    };
-    let Some(shape) = Shape::new(asked, kind.record_width()) else {
-        return Err(OpenFault::ShapeLimits);
-    };
-    let numbers = HeaderNumbers {
-        levels: parts.levels,
-        used: parts.used,
-        root: parts.root,
-        changes: parts.changes,
-    };
-    let Some(header) = Header::new(shape, numbers) else {
-        return Err(BAD_NUMBERS);
-    };
-    if !all_zero(parts.rest) {
-        return Err(BAD_NUMBERS);
-    }
+    let shape = Shape::new(parts.shape, kind.record_width()).ok_or(OpenFault::ShapeLimits)?;
+    let header = Header::new(shape, parts.numbers).ok_or(BAD_NUMBERS)?;
+    Rule::HeaderNumbers.keep(all_zero(parts.rest), 0)?;
     Ok(header)
 }

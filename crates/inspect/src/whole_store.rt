@@ -43,10 +43,8 @@ pub fn inspect_store<S: PageStore, K: RecordKind>(
     let mut page = [0; 512];
     read_page(store, 0, &mut page)?;
     let header = inspect_header(kind, &page)?;
-    let shape = header.shape();
-    let last = u32::from(header.used()) * u32::from(shape.slot_pages());
+    let last = u32::from(header.used()) * u32::from(header.shape().slot_pages());
     read_page(store, last, &mut page)?;
-    let (used, root) = (header.used() as usize, header.root() as usize);
-    inspect_tree(store, kind, shape, used, root, header.levels() as usize - 1)?;
+    inspect_tree(store, kind, &header)?;
     Ok(header)
 }

@@ -1,5 +1,5 @@
 // The inspection of a whole tree: the walk from the root, and then rule 12.
-ghost use Rattle.std.specs.Prelude.{◌≡◌, ◌*◌, ◌<◌, ◌≤◌, [], ◌∷◌, length, Result};
+ghost use Rattle.std.specs.Prelude.{◌≡◌, ◌-◌, ◌*◌, ◌<◌, length, Result};
 ghost use Rattle.records.specs.Kind.{record_width};
 ghost use Rattle.stores.specs.Store.{page_at};
 ghost use Rattle.shape.specs.Shape.{slot_pages_of};
@@ -7,86 +7,44 @@ ghost use Rattle.shape.specs.Made.{chosen};
 ghost use Rattle.layout.specs.Holds.{ByteTree};
 ghost use Rattle.layout.specs.Walk.{walk_tree};
 ghost use Rattle.inspect.specs.Bounds.{told};
-ghost use Rattle.inspect.specs.declared.bounds.Low.{Low};
-ghost use Rattle.inspect.specs.declared.bounds.High.{High};
-ghost use Rattle.inspect.specs.Listed.{Lists};
 ghost use Rattle.stores.specs.Looked.{Looked};
 ghost use Rattle.inspect.specs.Walked.{nodes_of};
 
-use crate::bounds::{High, Low};
-use crate::node_page::Listed;
-use crate::walk::{Ground, walk};
-use layout::{PageFault, Rule};
+use crate::listed::Listed;
+use crate::range::{Ground, KeyRange};
+use crate::walk::walk;
+use layout::{Header, PageFault, Rule};
 use records::RecordKind;
-use shape::Shape;
 use stores::PageStore;
 
-// The root alone is listed.
-fn list_root(root: usize) -> Listed
-    requires { root < 1024 }
-    ensures { Lists result (root ∷ []) }
-{
-    let mut listed = Listed {
-        flags: [false; 1024],
-        count: 1,
-    };
-    listed.flags[root] = true;
-    listed
-}
-
-// The ends of the range of all keys.
-fn from_least<'a>() -> Low<'a>
-    ensures { result ≡ Low.Least }
-{
-    Low::Least
-}
-
-fn to_most<'a>() -> High<'a>
-    ensures { result ≡ High.Most }
-{
-    High::Most
-}
-
-// Inspects the tree with its root in a slot, which is so many levels above the leaf nodes; each used slot is to be
-// reached.
+// Inspects the tree that the numbers of page 0 tell of; each used slot is to be reached.
 pub(crate) fn inspect_tree<S: PageStore, K: RecordKind>(
     store: &mut S,
     kind: &K,
-    shape: Shape,
-    used: usize,
-    root: usize,
-    height: usize,
+    header: &Header,
 ) -> Result<(), PageFault>
-    requires width { shape.record_width ≡ record_width (K.model kind.now) }
-    requires few { (used ≤ 1024) × (root < used) }
-    requires there { used * slot_pages_of (chosen shape) < length (S.state store.old).pages }
+    requires width { header.now.shape.record_width ≡ record_width (K.model kind.now) }
+    requires there { header.now.used * slot_pages_of (chosen header.now.shape)
+        < length (S.state store.old).pages }
     ensures pages { (S.state store.new).pages ≡ (S.state store.old).pages }
-    ensures answer { result ≡ told (walk_tree (K.model kind.now) (chosen shape)
-        (page_at (S.state store.old).pages) used height root) }
-    ensures looked { (t : ByteTree height)
-        → walk_tree (K.model kind.now) (chosen shape) (page_at (S.state store.old).pages) used height
-        root ≡ Result.Ok t
-        → Looked (S.state store.old) (slot_pages_of (chosen shape) * nodes_of height t)
+    ensures answer { result ≡ told (walk_tree (K.model kind.now) (chosen header.now.shape)
+        (page_at (S.state store.old).pages) header.now.used (header.now.levels - 1) header.now.root) }
+    ensures looked { (t : ByteTree (header.now.levels - 1))
+        → walk_tree (K.model kind.now) (chosen header.now.shape) (page_at (S.state store.old).pages)
+        header.now.used (header.now.levels - 1)
+        header.now.root ≡ Result.Ok t
+        → Looked (S.state store.old)
+        (slot_pages_of (chosen header.now.shape) * nodes_of (header.now.levels - 1) t)
         (S.state store.new) }
 {
-    let mut listed = list_root(root);
-    let ground = Ground { shape, used };
-    walk(
-        store,
+    let root = header.root() as usize;
+    let ground = Ground {
         kind,
-        ground,
-        height,
-        2,
-        &mut listed,
-        from_least(),
-        to_most(),
-        root,
-    )?;
-    if listed.count != used {
-        return Err(PageFault::Layout {
-            page: 0,
-            rule: Rule::SlotsReached,
-        });
-    }
-    Ok(())
+        shape: header.shape(),
+        used: header.used() as usize,
+    };
+    let mut listed = Listed::root(root);
+    let height = header.levels() as usize - 1;
+    walk(store, KeyRange::all(ground), height, 2, &mut listed, root)?;
+    Rule::SlotsReached.keep(listed.count == ground.used, 0)
 }

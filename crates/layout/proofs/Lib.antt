@@ -21,6 +21,7 @@ pub mod Inspection
 pub mod EmptyHeld
 pub mod Named
 pub mod WalkReads
+mod Halving
 pub mod Search
 pub mod Descent
 pub mod Inspected

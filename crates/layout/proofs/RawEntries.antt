@@ -149,7 +149,7 @@ raw_of_lem kind law (e ∷ es) rest h =
     ≡ map (raw_of kind) es = rw (mark_half e.value (mark_word es), k3) ih in
     cc
 
-value_raw : (v : ℕ) (o : Option (List ℕ)) → value_unless (is_tombstone o) (value_bytes v o) ≡ o
+pub value_raw : (v : ℕ) (o : Option (List ℕ)) → value_unless (is_tombstone o) (value_bytes v o) ≡ o
 value_raw v None = refl
 value_raw v (Some x) = refl
 

@@ -13,6 +13,7 @@ pub mod Inspection
 pub mod Made
 pub mod Laws
 pub mod WalkReads
+pub mod Rows
 pub mod Search
 pub mod Descent
 pub mod Examples

@@ -3,7 +3,7 @@ ghost use Rattle.std.specs.Prelude.{◌<◌, ◌≤◌};
 
 use shape::Shape;
 
-#[derive(Clone, Copy)]
+#[derive(Clone, Copy, Debug, PartialEq, Eq)]
 pub struct Header {
     pub(crate) shape: Shape,
     // h: the nodes from the root to a leaf node, both counted
@@ -20,7 +20,7 @@ pub struct Header {
 }
 
 // The numbers of page 0 beside the kind's and the shape's, not tested yet.
-#[derive(Clone, Copy)]
+#[derive(Clone, Copy, Debug, PartialEq, Eq)]
 pub struct HeaderNumbers {
     pub levels: u8,
     pub used: u16,

@@ -4,10 +4,10 @@
 // both. It uses the stores, the shape, the tree and the kinds and numbers of `records`.
 #![tactic(auto)]
 
-ghost use Rattle.std.specs.Prelude.{◌≡◌, ℕ, ◌+◌, ◌≤◌, List, [], ◌∷◌, ◌++◌, length, MatchResult};
+ghost use Rattle.std.specs.Prelude.{◌≡◌, ◌≤◌, length, MatchResult};
 ghost use Rattle.stores.specs.Store.{NotThere};
 ghost use Rattle.shape.specs.Made.{chosen};
-ghost use Rattle.layout.specs.Pages.{padded, header_page};
+ghost use Rattle.layout.specs.Pages.{header_page};
 ghost use Rattle.layout.specs.Header.{header_front};
 ghost use Rattle.layout.specs.Header.{header_of, empty_header, emptied};
 ghost use Rattle.layout.specs.Made.{MadeHeader};
@@ -19,20 +19,12 @@ pub mod faults;
 pub mod header;
 pub mod laws;
 pub mod parts;
+pub mod rows;
 
 pub use faults::{OpenFault, PageFault, Rule};
 pub use header::{Header, HeaderNumbers};
 pub use parts::{NodeParts, mark_word, node_parts};
-
-// Writes more bytes of a page that is zero from `at` on.
-fn append(page: &mut Page, at: usize, part: &[u8])
-    requires { at + length part.now ≤ 512 }
-    ensures { (front : List ℕ) → length front ≡ at → page.old ≡ padded front
-        → page.new ≡ padded (front ++ part.now) }
-{
-    let end = at + part.len();
-    page[at..end].copy_from_slice(part);
-}
+pub use rows::{ENTRIES_AT, Row, copied};
 
 impl Header {
     // The header of these numbers; none where a limit is broken.
@@ -125,9 +117,7 @@ impl Header {
     pub fn page(&self, kind: u8) -> Page
         ensures { result ≡ header_page kind (header_of self.now) }
     {
-        let mut page = [0; 512];
-        append(&mut page, 0, &self.front(kind));
-        page
+        copied(&self.front(kind))
     }
 }
 

@@ -6,7 +6,7 @@ ghost use Rattle.layout.specs.Nodes.{child_count_on, entry_count_on};
 use stores::Page;
 
 // A node page taken apart: the number of children, the number of entries, and the bytes behind them.
-#[derive(Clone, Copy)]
+#[derive(Clone, Copy, Debug, PartialEq, Eq)]
 pub struct NodeParts<'a> {
     pub children: usize,
     pub entries: usize,
@@ -23,8 +23,8 @@ pub fn node_parts<'a>(page: &'a Page) -> NodeParts<'a>
         return unreachable();
     };
     NodeParts {
-        children: *c as usize,
-        entries: *s1 as usize * 256 + *s0 as usize,
+        children: (*c).into(),
+        entries: u16::from_be_bytes([*s1, *s0]).into(),
         rest,
     }
 }

@@ -5,13 +5,9 @@
 ghost use Rattle.std.specs.Prelude.{◌≡◌, ◌≤◌, length};
 ghost use Rattle.limit_kinds.specs.Limit.{starts, valid};
 
-pub mod least;
-pub mod narrow;
-pub mod widest;
+pub mod limit;
 
-pub use least::Least;
-pub use narrow::Narrow;
-pub use widest::Widest;
+pub use limit::{LEAST, Least, Limit, NARROW, Narrow, WIDEST, Widest};
 
 // No key and no value begins with this byte.
 const FORBIDDEN: u8 = 255;

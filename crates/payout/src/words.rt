@@ -4,7 +4,8 @@ use layout::{PageFault, Rule};
 use std::fmt;
 use stores::StoreFault;
 
-// What a page does that breaks the rule.
+// What a page does that breaks the rule, in the words of the window; so it is no Display of the rule, which is the
+// layout's.
 fn broken(rule: Rule) -> &'static str {
     match rule {
         Rule::HeaderNumbers =>

@@ -4,7 +4,8 @@ use Rattle.std.specs.Prelude.{◌≡◌, ℕ, ◌+◌, ◌-◌, ◌<◌, ◌≤�
 use Rattle.std.specs.declared.cmp.Ordering.TheVariants.{Less, Equal, Greater}
 use Rattle.std.specs.declared.cmp.Ordering.{Ordering}
 use Rattle.std.proofs.Common.{sym, ap, ◌∙◌, arith}
-use Rattle.std.specs.Ordering.{ordering_then, ordering_reverse, MatchOrdering}
+use Rattle.std.specs.Ordering.{ordering_then, ordering_reverse, MatchOrdering, nat_cmp}
+use Rattle.std.specs.Cmp.Lexicographic.{slice_cmp}
 use Rattle.std.specs.List.{AllByRecursion}
 use Rattle.std.proofs.lemmas.Bool.Decides.{nat_tests}
 use Rattle.std.proofs.lemmas.List.Sums.{sum_by-cons}
@@ -43,6 +44,13 @@ fields_onward (x ∷ xs) (y ∷ ys) (z ∷ zs) h k = let m = fields_onward xs ys
 -- what a comparison in code answers
 pub compared_is : (x y : ℕ) (r : Ordering) → MatchOrdering r (x < y) (x ≡ y) (y < x) → r ≡ compared x y
 compared_is x y r h = grind (arith, nat_tests)
+
+-- the library's order of two lists is this one
+pub in_order : (xs ys : List ℕ) → slice_cmp nat_cmp xs ys ≡ by_fields xs ys
+in_order [] [] = refl
+in_order [] (y ∷ ys) = refl
+in_order (x ∷ xs) [] = refl
+in_order (x ∷ xs) (y ∷ ys) = let h = in_order xs ys in grind (arith, nat_tests, h)
 
 -- one field decides, or the rest does
 pub fields_step :

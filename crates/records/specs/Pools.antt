@@ -1,7 +1,26 @@
 -- The betting pools: how many runners a bet names, and which runners may stand in it.
-use Rattle.std.specs.Prelude.{ℕ, Bool, true, false, cond, ◌&&◌, ◌||◌, List, take, drop, Some, None, Option, ◌==◌, nat_eq}
+use Rattle.std.specs.Prelude.{ℕ, Bool, true, false, cond, ◌&&◌, ◌||◌, List, take, drop, ◌==◌, nat_eq}
+use Rattle.std.specs.Prelude.{Some, None, Option, Ok, Err, Result}
+use Rattle.records.specs.declared.pools.Pool.{Pool}
+use Rattle.records.specs.declared.pools.Pool.TheVariants.{Win, Place, Show, Quinella, Exacta, Trifecta}
+use Rattle.records.specs.declared.pools.NoPool.{NoPool}
 use Rattle.records.specs.declared.pools.PoolRule.{PoolRule}
 use Rattle.records.specs.Tests.{between, every, distinct, ascending}
+
+-- the pool of a number
+abbrev pub pool_numbered : ℕ → Result Pool NoPool
+pool_numbered n =
+    cond (n == 1) (Ok Win) (cond (n == 2) (Ok Place) (cond (n == 3) (Ok Show) (cond (n == 4) (Ok Quinella)
+    (cond (n == 5) (Ok Exacta) (cond (n == 6) (Ok Trifecta) (Err (record { number = n })))))))
+
+-- how many runners a bet of a pool names, and whether in order
+abbrev pub rule_for : Pool → PoolRule
+rule_for Win = record { runners = 1; ordered = true }
+rule_for Place = record { runners = 1; ordered = true }
+rule_for Show = record { runners = 1; ordered = true }
+rule_for Quinella = record { runners = 2; ordered = false }
+rule_for Exacta = record { runners = 2; ordered = true }
+rule_for Trifecta = record { runners = 3; ordered = true }
 
 -- 1 win, 2 place, 3 show, 4 quinella, 5 exacta, 6 trifecta
 abbrev pub rule_of : ℕ → Option PoolRule

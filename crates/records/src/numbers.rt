@@ -26,5 +26,5 @@ pub(crate) fn field_at(bytes: &[u8], at: usize, width: usize) -> u64
 pub(crate) fn within(n: u64, low: u64, high: u64) -> bool
     ensures { result ≡ between low high n }
 {
-    (low <= n) & (n <= high)
+    (low..=high).contains(&n)
 }

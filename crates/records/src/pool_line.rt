@@ -1,11 +1,10 @@
 // Kind 2, the pool line: what was staked in one pool of one race on the same runners.
-ghost use Rattle.std.specs.Prelude.{◌≡◌, length};
+ghost use Rattle.std.specs.Prelude.{◌≡◌, length, refl};
 ghost use Rattle.records.specs.PoolLine.{line_fields, line_in_limits, line_kind};
 ghost use Rattle.records.specs.PoolLines.{line_lawful};
 
 use crate::RecordKind;
 use crate::numbers::field_at;
-use crate::order::compare_fields;
 use crate::pools::valid_bet;
 use crate::track::{valid_course, valid_day, valid_race};
 use std::cmp::Ordering;
@@ -13,7 +12,7 @@ use std::cmp::Ordering;
 // A total is at most this.
 const MOST_TOTAL: u64 = 1_000_000_000_000_000;
 
-#[derive(Clone, Copy)]
+#[derive(Clone, Copy, Debug, PartialEq, Eq)]
 pub struct PoolLine;
 
 // What pool lines are sorted by; a later race comes first.
@@ -37,7 +36,7 @@ fn line_in_limits(key: &[u8]) -> bool
     ensures { result ≡ line_in_limits key.now }
 {
     let place = valid_course(field_at(key, 0, 2)) & valid_day(field_at(key, 2, 2));
-    place & valid_race(key[4]) & valid_bet(key[5], key[6], key[7], key[8])
+    place & valid_race(key[4]) & valid_bet(key[5], [key[6], key[7], key[8]])
 }
 
 impl RecordKind for PoolLine {
@@ -47,21 +46,17 @@ impl RecordKind for PoolLine {
 
     const VALUE_BYTES: usize = 8;
 
+    ghost KIND_NUMBER = { 2 };
+
+    ghost KEY_BYTES = { 9 };
+
+    ghost VALUE_BYTES = { 8 };
+
+    ghost constants = { λ k. (refl, refl, refl) };
+
     ghost model = { λ _. line_kind };
 
     ghost lawful = { λ k. line_lawful };
-
-    fn number(&self) -> u8 {
-        Self::KIND_NUMBER
-    }
-
-    fn key_width(&self) -> usize {
-        Self::KEY_BYTES
-    }
-
-    fn value_width(&self) -> usize {
-        Self::VALUE_BYTES
-    }
 
     fn valid_key(&self, key: &[u8]) -> bool {
         key.len() == Self::KEY_BYTES && line_in_limits(key)
@@ -72,6 +67,6 @@ impl RecordKind for PoolLine {
     }
 
     fn compare(&self, a: &[u8], b: &[u8]) -> Ordering {
-        compare_fields(&line_fields(a), &line_fields(b))
+        line_fields(a).cmp(&line_fields(b))
     }
 }

@@ -1,11 +1,10 @@
 // Kind 1, the ticket: one record for each ticket sold at a track.
-ghost use Rattle.std.specs.Prelude.{◌≡◌, length};
+ghost use Rattle.std.specs.Prelude.{◌≡◌, length, refl};
 ghost use Rattle.records.specs.Ticket.{ticket_fields, key_in_limits, value_in_limits, ticket_kind};
 ghost use Rattle.records.specs.Tickets.{ticket_lawful};
 
 use crate::RecordKind;
 use crate::numbers::{field_at, within};
-use crate::order::compare_fields;
 use crate::pools::valid_bet;
 use crate::track::{valid_course, valid_day, valid_race};
 use std::cmp::Ordering;
@@ -14,7 +13,7 @@ const LAST_SERIAL: u64 = 99_999_999;
 
 const MOST_STAKE: u64 = 10_000_000;
 
-#[derive(Clone, Copy)]
+#[derive(Clone, Copy, Debug, PartialEq, Eq)]
 pub struct Ticket;
 
 // What tickets are sorted by: day, course, serial.
@@ -43,7 +42,7 @@ fn value_in_limits(value: &[u8]) -> bool
     requires { length value.now ≡ 10 }
     ensures { result ≡ value_in_limits value.now }
 {
-    let bet = valid_bet(value[1], value[2], value[3], value[4]);
+    let bet = valid_bet(value[1], [value[2], value[3], value[4]]);
     let stake = field_at(value, 5, 4);
     let state = value[9];
     valid_race(value[0]) & bet & within(stake, 1, MOST_STAKE) & within(state.into(), 1, 3)
@@ -56,21 +55,17 @@ impl RecordKind for Ticket {
 
     const VALUE_BYTES: usize = 10;
 
+    ghost KIND_NUMBER = { 1 };
+
+    ghost KEY_BYTES = { 8 };
+
+    ghost VALUE_BYTES = { 10 };
+
+    ghost constants = { λ k. (refl, refl, refl) };
+
     ghost model = { λ _. ticket_kind };
 
     ghost lawful = { λ k. ticket_lawful };
-
-    fn number(&self) -> u8 {
-        Self::KIND_NUMBER
-    }
-
-    fn key_width(&self) -> usize {
-        Self::KEY_BYTES
-    }
-
-    fn value_width(&self) -> usize {
-        Self::VALUE_BYTES
-    }
 
     fn valid_key(&self, key: &[u8]) -> bool {
         key.len() == Self::KEY_BYTES && key_in_limits(key)
@@ -81,6 +76,6 @@ impl RecordKind for Ticket {
     }
 
     fn compare(&self, a: &[u8], b: &[u8]) -> Ordering {
-        compare_fields(&ticket_fields(a), &ticket_fields(b))
+        ticket_fields(a).cmp(&ticket_fields(b))
     }
 }

@@ -1,95 +1,83 @@
 // Replay: reads a script of calls from standard input, runs them on an index and prints one answer for each, and at the
 // end, in lines that begin with #, what was accomplished. All that matters is in the layers below; this program reads,
-// prints and counts. It uses the index, the stores and the kinds.
+// prints and counts. It uses the index, the stores, the kinds and the words of a script line.
 #![tactic(auto)]
 
+mod replay;
 mod script;
 mod session;
-mod words;
 
-use anyhow::anyhow;
+use crate::replay::{Counts, Replay};
+use anyhow::bail;
 use index::{Index, Status};
-use limit_kinds::{Least, Narrow, Widest};
-use records::{PoolLine, Ticket};
+use limit_kinds::{LEAST, NARROW, WIDEST};
+use records::{PoolLine, RecordKind, Ticket};
 use script::{Command, KindName, StoreName, Wrong};
-use session::{Replay, serve};
+use session::Session;
 use std::io;
 use std::io::{BufRead, BufReader};
 use stores::{PageStore, PlainStore, ShiftingStore};
 
-// Answers commands on a new closed index over this store, once a kind is chosen.
-fn serve_store<R: BufRead + Drop, S: PageStore + Drop>(
-    rt: &HostRuntime,
-    replay: &mut Replay<R>,
+// Answers commands on a new closed index over this store; what is left of the script, and the index's last status.
+fn serve_index<'r, R: BufRead + Drop, S: PageStore + Drop, K: RecordKind + Drop>(
+    replay: Replay<'r, R>,
+    store: S,
+    kind: K,
+) -> io::Result<(Replay<'r, R>, Status)> {
+    println!(replay.rt; "size {}", store.size())?;
+    Session::new(replay, Index::new(store, kind)).serve()
+}
+
+// Each arm makes an index of another type, so the choice stands here and is no table.
+fn serve_store<'r, R: BufRead + Drop, S: PageStore + Drop>(
+    replay: Replay<'r, R>,
     kind: KindName,
     store: S,
-) -> io::Result<Option<Command>> {
-    println!(rt; "size {}", store.size())?;
+) -> io::Result<(Replay<'r, R>, Status)> {
     match kind {
-        KindName::Ticket => serve(rt, replay, Index::new(store, Ticket)),
-        KindName::PoolLine => serve(rt, replay, Index::new(store, PoolLine)),
-        KindName::Narrow => serve(rt, replay, Index::new(store, Narrow)),
-        KindName::Widest => serve(rt, replay, Index::new(store, Widest)),
-        KindName::Least => serve(rt, replay, Index::new(store, Least)),
+        KindName::Ticket => serve_index(replay, store, Ticket),
+        KindName::PoolLine => serve_index(replay, store, PoolLine),
+        KindName::Narrow => serve_index(replay, store, NARROW),
+        KindName::Widest => serve_index(replay, store, WIDEST),
+        KindName::Least => serve_index(replay, store, LEAST),
     }
 }
 
-fn serve_area<R: BufRead + Drop>(
-    rt: &HostRuntime,
-    replay: &mut Replay<R>,
+fn serve_area<'r, R: BufRead + Drop>(
+    replay: Replay<'r, R>,
     kind: KindName,
     name: StoreName,
     area: &mut [u8],
-) -> io::Result<Option<Command>> {
+) -> io::Result<(Replay<'r, R>, Status)> {
     match name {
-        StoreName::Plain => serve_store(rt, replay, kind, PlainStore::new(area)),
-        StoreName::Shifting => serve_store(rt, replay, kind, ShiftingStore::new(area)),
+        StoreName::Plain => serve_store(replay, kind, PlainStore::new(area)),
+        StoreName::Shifting => serve_store(replay, kind, ShiftingStore::new(area)),
     }
 }
 
-// A command while there is no index; what comes next is handed back.
-fn begin<R: BufRead + Drop>(
-    rt: &HostRuntime,
-    replay: &mut Replay<R>,
-    kind: &mut Option<KindName>,
-    command: Command,
-) -> io::Result<Option<Command>> {
-    match command {
-        Command::Kind(name) => {
-            println!(rt; "ok")?;
-            *kind = Some(name);
-            replay.next_command(rt)
-        }
-        Command::Store(name, area) => {
-            let mut area = area;
-            let Some(kind) = *kind else {
-                replay.fail(rt, Wrong::KindFirst)?;
-                return replay.next_command(rt);
-            };
-            serve_area(rt, replay, kind, name, area.as_mut_slice())
-        }
-        _ => {
-            let wrong = if kind.is_none() {
-                Wrong::KindFirst
-            } else {
-                Wrong::StoreFirst
-            };
-            replay.fail(rt, wrong)?;
-            replay.next_command(rt)
-        }
-    }
-}
-
-fn run<R: BufRead + Drop>(rt: &HostRuntime, replay: &mut Replay<R>) -> io::Result<()> {
+// Answers the whole script; what was counted, and the status in which the last store was left, if there was one.
+fn run<R: BufRead + Drop>(mut replay: Replay<'_, R>) -> io::Result<(Counts, Option<Status>)> {
     let mut kind = None;
-    let mut next = replay.next_command(rt)?;
+    let mut left = None;
     for _ in 0..u64::MAX {
-        let Some(command) = next else {
-            return Ok(());
+        let Some(command) = replay.next_command()? else {
+            break;
         };
-        next = begin(rt, replay, &mut kind, command)?;
+        match (command, kind) {
+            (Command::Kind(name), _) => {
+                println!(replay.rt; "ok")?;
+                kind = Some(name);
+            }
+            (Command::Store(name, mut area), Some(kind)) => {
+                let (rest, status) = serve_area(replay, kind, name, area.as_mut_slice())?;
+                replay = rest;
+                left = Some(status);
+            }
+            (_, None) => replay.fail(Wrong::KindFirst)?,
+            (_, Some(_)) => replay.fail(Wrong::StoreFirst)?,
+        }
     }
-    Ok(())
+    Ok((replay.counts, left))
 }
 
 fn state_line(rt: &HostRuntime, status: Status) -> io::Result<()> {
@@ -106,27 +94,30 @@ fn state_line(rt: &HostRuntime, status: Status) -> io::Result<()> {
     }
 }
 
-fn summary<R: BufRead + Drop>(rt: &HostRuntime, replay: &Replay<R>) -> io::Result<()> {
-    println!(rt;
-        "# calls granted: {}, refused: {}",
-        replay.granted, replay.refused
-    )?;
-    println!(rt; "# pages touched: {}", replay.touched)?;
-    if replay.errors > 0 {
-        println!(rt; "# lines in error: {}", replay.errors)?;
+fn summary(rt: &HostRuntime, counts: Counts, left: Option<Status>) -> io::Result<()> {
+    let Counts {
+        granted,
+        refused,
+        errors,
+        touched,
+    } = counts;
+    println!(rt; "# calls granted: {granted}, refused: {refused}")?;
+    println!(rt; "# pages touched: {touched}")?;
+    if errors > 0 {
+        println!(rt; "# lines in error: {errors}")?;
     }
-    match replay.left {
+    match left {
         None => println!(rt; "# no store was made"),
         Some(status) => state_line(rt, status),
     }
 }
 
 fn main(rt: HostRuntime) -> anyhow::Result<()> {
-    let mut replay = Replay::new(rt.alloc(), BufReader::new(rt.alloc(), rt.stdin())?);
-    run(&rt, &mut replay)?;
-    summary(&rt, &replay)?;
-    if replay.errors > 0 {
-        return Err(anyhow!("some lines of the script are in error"));
+    let replay = Replay::new(&rt, BufReader::new(rt.alloc(), rt.stdin())?);
+    let (counts, left) = run(replay)?;
+    summary(&rt, counts, left)?;
+    if counts.errors > 0 {
+        bail!("some lines of the script are in error");
     }
     Ok(())
 }

@@ -1,7 +1,7 @@
 -- Entries ascend, so the place where a key divides them is the number of those below it: the entry in front of the
 -- place is below the key, so all before it are, and the entry at the place is not, so none after it is.
-use Rattle.std.proofs.Common.{◌≡◌, ℕ, zero, suc, ◌+◌, ◌<◌, ◌≤◌, Bool, true, false, not, List, [], ◌∷◌, length, take, drop, Option, Ordering, Less, Equal, Greater, sym, refl, ap, ◌∙◌, inl, inr, arith}
-use Rattle.std.specs.Ordering.{is_lt, ordering_reverse}
+use Rattle.std.proofs.Common.{◌≡◌, ℕ, zero, suc, ◌+◌, ◌<◌, ◌≤◌, Bool, true, false, not, List, [], ◌∷◌, length, take, drop, Option, Ordering, Less, Equal, Greater, sym, refl, ap, ◌∙◌, subst, inl, inr, arith}
+use Rattle.std.specs.Ordering.{is_lt, is_le, ordering_reverse}
 use Rattle.std.proofs.lemmas.List.{length-drop}
 use Rattle.std.proofs.lemmas.Bool.{cases_Bool}
 use Rattle.records.specs.Kind.{Kind, Lawful}
@@ -11,11 +11,11 @@ use Rattle.tree.specs.Keys.{key_below}
 use Rattle.tree.proofs.Keys.{kinds_order_keys}
 use Rattle.layout.specs.Pages.{ByteEntry}
 use Rattle.layout.specs.Slots.{first_key}
+use Rattle.layout.specs.Rows.{key_in, Divides}
 use Rattle.layout.specs.Search.{rank}
 use Rattle.layout.specs.LeafPages.{low_after}
 use Rattle.layout.specs.Holds.{ValidKey}
 use Rattle.layout.proofs.DTree.{ascending_drop}
-use Rattle.search.specs.Rows.{is_before, Divides}
 
 -- another test that says the same
 pub divides_same :
@@ -26,26 +26,31 @@ divides_same test other n r same d = record {
   right = λ l. sym (same r l) ∙ d.right l;
 }
 
+-- a row as the code holds it
+pub divides_row :
+    (test : List ℕ → Bool) (w v n w' v' n' r : ℕ) (bytes bytes' : List ℕ) → w' ≡ w → v' ≡ v → n' ≡ n → bytes' ≡ bytes
+    → Divides (λ i. test (key_in w' (w' + v') bytes' i)) n' r → Divides (λ i. test (key_in w (w + v) bytes i)) n r
+divides_row test w v n w' v' n' r bytes bytes' a b c e d =
+    let d₁ = subst (λ x. Divides (λ i. test (key_in x (x + v') bytes' i)) n' r) a d in
+    let d₂ = subst (λ x. Divides (λ i. test (key_in w (w + x) bytes' i)) n' r) b d₁ in
+    let d₃ = subst (λ x. Divides (λ i. test (key_in w (w + v) bytes' i)) x r) c d₂ in
+    subst (λ x. Divides (λ i. test (key_in w (w + v) x i)) n r) e d₃
+
 -- the kind's comparison and the tree's order
 
-before_is : (d : Ordering) → is_before false d ≡ is_lt d
-before_is Less = refl
-before_is Equal = refl
-before_is Greater = refl
-
-upto_is : (d : Ordering) → is_before true d ≡ not (is_lt (ordering_reverse d))
+upto_is : (d : Ordering) → is_le d ≡ not (is_lt (ordering_reverse d))
 upto_is Less = refl
 upto_is Equal = refl
 upto_is Greater = refl
 
 pub before_by_tree :
     (kind : Kind) → Lawful kind → (a key : List ℕ) → ValidKey kind a → ValidKey kind key
-    → is_before false (kind.order a key) ≡ key_below kind a key
-before_by_tree kind law a key v w = before_is (kind.order a key) ∙ sym ((kinds_order_keys kind law).1 a key v w)
+    → is_lt (kind.order a key) ≡ key_below kind a key
+before_by_tree kind law a key v w = sym ((kinds_order_keys kind law).1 a key v w)
 
 pub upto_by_tree :
     (kind : Kind) → Lawful kind → (a key : List ℕ) → ValidKey kind a → ValidKey kind key
-    → is_before true (kind.order a key) ≡ not (key_below kind key a)
+    → is_le (kind.order a key) ≡ not (key_below kind key a)
 upto_by_tree kind law a key v w =
     upto_is (kind.order a key) ∙ ap (λ d. not (is_lt d)) (sym (law.mirrored a key))
     ∙ ap not (sym ((kinds_order_keys kind law).1 key a w v))

@@ -1,5 +1,3 @@
-mod Halving
-mod Said
 mod Divided
 mod OnLeaf
 mod OnHead

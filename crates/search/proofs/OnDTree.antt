@@ -15,7 +15,7 @@ use Rattle.layout.specs.Search.{PageFor}
 use Rattle.layout.specs.Holds.{ValidEntry}
 use Rattle.layout.proofs.Search.{search_by_first_keys}
 use Rattle.layout.proofs.DTree.{ascending_take, ascending_drop}
-use Rattle.search.specs.Rows.{Divides}
+use Rattle.layout.specs.Rows.{Divides}
 use Rattle.search.specs.Found.{PlaceOf, GoodEntries, DTreeOn}
 use Rattle.search.specs.declared.d_tree.Place.{Place}
 use Rattle.search.specs.declared.d_tree.Saying.TheVariants.{Nothing}
@@ -121,7 +121,8 @@ module _
   }
 
   pub found_there :
-      (n : ℕ) (place : Place) → 1 ≤ n → UpTo n → PlaceOf kind key (entries_of (n - 1)) place
-      → PlaceOf kind key es (record { below = (n - 1) * E + place.below; saying = place.saying })
-  found_there n place one d f =
-      page_found (n - 1) place (subst UpTo (let z : n ≡ suc (n - 1) = omega arith in z) d) f
+      (per n : ℕ) (place : Place) → per ≡ E → 1 ≤ n → UpTo n → PlaceOf kind key (entries_of (n - 1)) place
+      → PlaceOf kind key es (record { below = (n - 1) * per + place.below; saying = place.saying })
+  found_there per n place e one d f =
+      subst (λ x. PlaceOf kind key es (record { below = (n - 1) * x + place.below; saying = place.saying })) (sym e)
+      (page_found (n - 1) place (subst UpTo (let z : n ≡ suc (n - 1) = omega arith in z) d) f)

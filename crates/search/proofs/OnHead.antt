@@ -1,16 +1,18 @@
 -- The search of a head page: the keys in its row are the first keys of the leaf pages.
-use Rattle.std.proofs.Common.{◌≡◌, ℕ, ◌*◌, ◌≤◌, true, not, List, length, get_or, drop, sym, ap, ◌∙◌, subst}
+use Rattle.std.proofs.Common.{◌≡◌, ℕ, ◌+◌, ◌*◌, ◌≤◌, false, not, eqb, List, length, get_or, drop, sym, ap, ◌∙◌, subst, arith}
+use Rattle.std.specs.Ordering.{is_le}
+use Rattle.std.proofs.lemmas.Bool.{eq-eqb, false≢true}
 use Rattle.records.specs.Kind.{Kind, Lawful}
 use Rattle.stores.specs.Store.{page_at}
 use Rattle.shape.specs.Shape.{ceiling}
 use Rattle.tree.specs.Keys.{key_below}
 use Rattle.layout.specs.Pages.{ByteEntry, head_page}
 use Rattle.layout.specs.Slots.{first_key}
+use Rattle.layout.specs.Rows.{key_in, Divides}
 use Rattle.layout.specs.Holds.{ValidKey}
 use Rattle.layout.proofs.DTree.{HeadPageRead, head_page_read}
-use Rattle.search.specs.Rows.{is_before, key_before, Divides}
 use Rattle.search.specs.Found.{DTreeOn}
-use Rattle.search.proofs.Divided.{divides_same, upto_by_tree}
+use Rattle.search.proofs.Divided.{divides_same, divides_row, upto_by_tree}
 use Rattle.search.proofs.OnLeaf.{page_there}
 
 module _
@@ -21,24 +23,26 @@ module _
 
   -- the row as the code takes it from the page that it read
   pub head_divides :
-      (key buffer bytes : List ℕ) (stride filled r : ℕ) → ValidKey kind key → buffer ≡ page p
-      → filled ≡ ceiling (length es) E → stride ≡ kind.key_width → bytes ≡ drop 1 buffer
-      → Divides (key_before kind true key stride bytes) filled r
+      (key buffer bytes : List ℕ) (w v n r : ℕ) → ValidKey kind key → buffer ≡ page p → w ≡ kind.key_width → v ≡ 0
+      → n ≡ ceiling (length es) E → bytes ≡ drop 1 buffer
+      → Divides (λ i. is_le (kind.order (key_in w (w + v) bytes i) key)) n r
       → Divides (λ j. not (key_below kind key (first_key (drop (j * E) es)))) (ceiling (length es) E) r
-  head_divides key buffer bytes stride filled r valid is n wide rest d =
-      let w = kind.key_width in
-      let bs : bytes ≡ drop 1 (page p) = rest ∙ ap (drop 1) is in
-      let d₁ = subst (λ b. Divides (key_before kind true key stride b) filled r) bs d in
-      let d₂ = subst (λ s. Divides (key_before kind true key s (drop 1 (page p))) filled r) wide d₁ in
-      let d₃ = subst (λ m. Divides (key_before kind true key w (drop 1 (page p))) m r) n d₂ in
-      divides_same _ _ (ceiling (length es) E) r (λ j l.
-      ap (λ k. is_before true (kind.order k key)) (head_read.keys j l)
-      ∙ upto_by_tree kind law (first_key (drop (j * E) es)) key (head_read.valid j l) valid) d₃
+  head_divides key buffer bytes w v n r valid is wide none filled rest d =
+      let pages = ceiling (length es) E in
+      let x = kind.key_width in
+      let alone : x + 0 ≡ x = omega arith in
+      let d₁ = divides_row (λ k. is_le (kind.order k key)) x 0 pages w v n r (drop 1 (page p)) bytes wide none filled
+      (rest ∙ ap (drop 1) is) d in
+      let d₂ = subst (λ s. Divides (λ i. is_le (kind.order (key_in x s (drop 1 (page p)) i) key)) pages r) alone d₁ in
+      divides_same _ _ pages r (λ j l.
+      ap (λ k. is_le (kind.order k key)) (head_read.keys j l)
+      ∙ upto_by_tree kind law (first_key (drop (j * E) es)) key (head_read.valid j l) valid) d₂
 
   pub head_counted :
       (buffer : List ℕ) (filled : ℕ) → buffer ≡ page p → filled ≡ ceiling (length es) E
-      → (get_or buffer 0 0 ≡ filled → ⊥) → ⊥
-  head_counted buffer filled is n other = other (ap (λ x. get_or x 0 0) is ∙ head_read.count ∙ sym n)
+      → eqb (get_or buffer 0 0) filled ≡ false → ⊥
+  head_counted buffer filled is n other =
+      false≢true (sym other ∙ eq-eqb _ filled (ap (λ x. get_or x 0 0) is ∙ head_read.count ∙ sym n))
 
 pub head_there :
     (kind : Kind) (E : ℕ) (pages : List (List ℕ)) (p : ℕ) (es : List ByteEntry) → length pages ≤ p

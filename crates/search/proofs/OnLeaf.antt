@@ -1,35 +1,31 @@
 -- The search of one leaf page: the keys in its row are those of its entries, so the place where the key divides the row
 -- is its place among the entries, and the entry at it is the only one that can have the key.
-use Rattle.std.proofs.Common.{◌≡◌, ℕ, ◌<◌, ◌≤◌, Bool, true, false, cond, ◌&&◌, ltb, List, [], ◌∷◌, map, length, get_or, take, drop, Some, None, Option, sym, refl, ap, ◌∙◌, subst, inl, inr, arith}
+use Rattle.std.proofs.Common.{◌≡◌, ℕ, ◌+◌, ◌<◌, ◌≤◌, Bool, true, false, cond, ◌&&◌, eqb, ltb, List, [], ◌∷◌, map, length, get_or, take, drop, None, Option, sym, refl, ap, ◌∙◌, subst, inl, inr, arith}
 use Rattle.std.specs.List.{AllByRecursion}
 use Rattle.std.specs.Str.{bytes_eq}
+use Rattle.std.specs.Ordering.{is_lt}
 use Rattle.std.proofs.ByRecursion.{All-drop}
 use Rattle.std.proofs.lemmas.Slice.Eq.{bytes_eq-Decides}
 use Rattle.std.proofs.lemmas.List.{drop_all, drop-map, length-drop, get_or_past}
-use Rattle.std.proofs.lemmas.Bool.{cases_lt, cases_Bool, lt-ltb, le-ltb, both_ways}
+use Rattle.std.proofs.lemmas.Bool.{cases_lt, cases_Bool, lt-ltb, le-ltb, both_ways, eq-eqb, false≢true}
 use Rattle.records.specs.Kind.{Kind, Lawful, record_width}
 use Rattle.tree.specs.Order.{Ordered}
 use Rattle.tree.specs.Entries.{read}
 use Rattle.tree.specs.Keys.{key_below}
 use Rattle.tree.proofs.Keys.{key_ordered}
-use Rattle.layout.specs.Pages.{ByteEntry, value_bytes, leaf_page}
+use Rattle.layout.specs.Pages.{ByteEntry, leaf_page}
 use Rattle.layout.specs.Slots.{first_key}
 use Rattle.layout.specs.LeafPages.{RawEntry, raw_entries_on, marks_on, value_unless, low_after}
+use Rattle.layout.specs.Rows.{key_in, Divides}
 use Rattle.layout.specs.Holds.{ValidKey, ValidEntry}
-use Rattle.layout.proofs.RawEntries.{raw_at, raw_drop, is_tombstone, raw_of}
+use Rattle.layout.proofs.RawEntries.{raw_at, raw_drop, raw_of, value_raw}
 use Rattle.layout.proofs.LeafPage.{LeafPageRead, leaf_page_read}
 use Rattle.layout.proofs.DTree.{ascending_drop}
-use Rattle.search.specs.Rows.{key_in, is_before, key_before, Divides}
 use Rattle.search.specs.Found.{said_by, said_at, GoodEntries, PlaceOf}
 use Rattle.search.specs.declared.d_tree.Place.{Place}
-use Rattle.search.proofs.Divided.{divides_same, before_by_tree, under, divided}
+use Rattle.search.proofs.Divided.{divides_same, divides_row, before_by_tree, under, divided}
 use Rattle.layout.proofs.Search.{search_by_first_keys}
 use Rattle.stores.specs.Store.{page_at}
-
--- the value of an entry from its mark and its bytes
-value_of : (v : ℕ) (o : Option (List ℕ)) → value_unless (is_tombstone o) (value_bytes v o) ≡ o
-value_of v None = refl
-value_of v (Some x) = refl
 
 module _ (kind : Kind) (law : Lawful kind) (page : List ℕ) (es : List ByteEntry) (on : LeafPageRead kind page es) where
   abbrev w : ℕ
@@ -68,23 +64,27 @@ module _ (kind : Kind) (law : Lawful kind) (page : List ℕ) (es : List ByteEntr
     key_valid i l =
         let f = at_place i l in
         let v = All-drop (ValidEntry kind) i es good.valid in
-        let u : AllByRecursion (ValidEntry kind) (f.0 ∷ f.1) = subst (λ xs. AllByRecursion (ValidEntry kind) xs) f.2 v in
+        let u : AllByRecursion (ValidEntry kind) (f.0 ∷ f.1) = subst (AllByRecursion (ValidEntry kind)) f.2 v in
         ap (λ xs. kind.valid_key (first_key xs)) f.2 ∙ u.0.0
 
     abbrev row : List ℕ
     row = drop 9 page
 
+    -- whether key i of the row is below the key
+    abbrev before : ℕ → Bool
+    before i = is_lt (kind.order (key_in w (record_width kind) row i) key)
+
     -- the row divides as the entries do
     row_divides :
-        (r : ℕ) → Divides (key_before kind false key (record_width kind) row) (length es) r
+        (r : ℕ) → Divides before (length es) r
         → Divides (under (key_ordered kind law) good.high key es) (length es) r
     row_divides r d =
         divides_same _ _ (length es) r (λ i l.
-        ap (λ k. is_before false (kind.order k key)) (key_on_lem i l)
+        ap (λ k. is_lt (kind.order k key)) (key_on_lem i l)
         ∙ before_by_tree kind law (first_key (drop i es)) key (key_valid i l) valid_key) d
 
     abbrev said : ℕ → Option (List ℕ) → Option (List ℕ)
-    said r older = said_at kind (marks_on page) (record_width kind) (length es) row r key older
+    said r older = said_at kind (marks_on page) (length es) row r key older
 
     -- the entry at the place has the key
     said_same :
@@ -97,7 +97,7 @@ module _ (kind : Kind) (law : Lawful kind) (page : List ℕ) (es : List ByteEntr
         let b : bytes_eq (raw r).key key ≡ true =
         (bytes_eq-Decides (raw r).key key).1 (ap (λ x. x.key) is ∙ same) in
         let v : value_unless (raw r).marked (raw r).value ≡ e.value =
-        ap (λ x. value_unless x.marked x.value) is ∙ value_of kind.value_width e.value in
+        ap (λ x. value_unless x.marked x.value) is ∙ value_raw kind.value_width e.value in
         let here : read lt key (e ∷ ys) older ≡ e.value = read_same o e ys older same in
         ap (λ t. cond (t && bytes_eq (raw r).key key) (value_unless (raw r).marked (raw r).value) older) a
         ∙ ap (λ t. cond t (value_unless (raw r).marked (raw r).value) older) b
@@ -164,7 +164,7 @@ module _ (kind : Kind) (law : Lawful kind) (page : List ℕ) (es : List ByteEntr
 
     -- the place found on the page is the key's
     pub page_place :
-        (place : Place) → Divides (key_before kind false key (record_width kind) row) (length es) place.below
+        (place : Place) → Divides before (length es) place.below
         → ((older : Option (List ℕ)) → said_by kind.value_width place.saying older ≡ said place.below older)
         → PlaceOf kind key es place
     page_place place d says =
@@ -186,26 +186,26 @@ module _ (kind : Kind) (law : Lawful kind) (page : List ℕ) (es : List ByteEntr
 -- the search as the code runs it, on the page as it was read
 pub leaf_found :
     (kind : Kind) → Lawful kind → (page buffer bytes : List ℕ) (es : List ByteEntry) (key : List ℕ)
-    (t stride marks : ℕ) (place : Place) → buffer ≡ page → page ≡ leaf_page kind es → length es ≡ t → t ≤ 64
-    → GoodEntries kind es → ValidKey kind key → stride ≡ record_width kind → bytes ≡ drop 9 buffer
-    → marks ≡ marks_on buffer → Divides (key_before kind false key stride bytes) t place.below
+    (w v n t marks : ℕ) (place : Place) → buffer ≡ page → page ≡ leaf_page kind es → length es ≡ t → t ≤ 64
+    → GoodEntries kind es → ValidKey kind key → (w ≡ kind.key_width) × (v ≡ kind.value_width) → n ≡ t
+    → bytes ≡ drop 9 buffer → marks ≡ marks_on buffer
+    → Divides (λ i. is_lt (kind.order (key_in w (w + v) bytes i) key)) n place.below
     → ((older : Option (List ℕ))
-    → said_by kind.value_width place.saying older ≡ said_at kind marks stride t bytes place.below key older)
+    → said_by kind.value_width place.saying older ≡ said_at kind marks n bytes place.below key older)
     → PlaceOf kind key es place
-leaf_found kind law page buffer bytes es key t stride marks place is held long few good valid wide rest mark d says =
+leaf_found kind law page buffer bytes es key w v n t marks place is held long few good valid wide many rest mark d says
+    =
     let on = leaf_page_read kind law page es (omega arith) good.valid held in
     let bs : bytes ≡ drop 9 page = rest ∙ ap (drop 9) is in
     let ms : marks ≡ marks_on page = mark ∙ ap marks_on is in
-    let W = record_width kind in
+    let ns : n ≡ length es = many ∙ sym long in
     let r = place.below in
-    let d₁ = subst (λ b. Divides (key_before kind false key stride b) t r) bs d in
-    let d₂ = subst (λ s. Divides (key_before kind false key s (drop 9 page)) t r) wide d₁ in
-    let d₃ = subst (λ n. Divides (key_before kind false key W (drop 9 page)) n r) (sym long) d₂ in
-    page_place kind law page es on key valid good place d₃ (λ older.
-    says older ∙ ap (λ b. said_at kind marks stride t b r key older) bs
-    ∙ ap (λ s. said_at kind marks s t (drop 9 page) r key older) wide
-    ∙ ap (λ m. said_at kind m W t (drop 9 page) r key older) ms
-    ∙ ap (λ n. said_at kind (marks_on page) W n (drop 9 page) r key older) (sym long))
+    let d₁ = divides_row (λ k. is_lt (kind.order k key)) kind.key_width kind.value_width (length es) w v n r
+    (drop 9 page) bytes wide.0 wide.1 ns bs d in
+    page_place kind law page es on key valid good place d₁ (λ older.
+    says older ∙ ap (λ b. said_at kind marks n b r key older) bs
+    ∙ ap (λ m. said_at kind m n (drop 9 page) r key older) ms
+    ∙ ap (λ m. said_at kind (marks_on page) m (drop 9 page) r key older) ns)
 
 -- a page with bytes on it is there
 pub page_there :
@@ -223,7 +223,7 @@ leaf_there kind pages p es l e = page_there pages p _ _ l e
 -- a page that holds so many entries counts them
 pub leaf_counted :
     (kind : Kind) → Lawful kind → (page buffer : List ℕ) (es : List ByteEntry) (t : ℕ) → buffer ≡ page
-    → page ≡ leaf_page kind es → length es ≡ t → t ≤ 64 → GoodEntries kind es → (get_or buffer 0 0 ≡ t → ⊥) → ⊥
+    → page ≡ leaf_page kind es → length es ≡ t → t ≤ 64 → GoodEntries kind es → eqb (get_or buffer 0 0) t ≡ false → ⊥
 leaf_counted kind law page buffer es t is held long few good other =
     let on = leaf_page_read kind law page es (omega arith) good.valid held in
-    other (ap (λ x. get_or x 0 0) is ∙ on.count ∙ long)
+    false≢true (sym other ∙ eq-eqb _ t (ap (λ x. get_or x 0 0) is ∙ on.count ∙ long))

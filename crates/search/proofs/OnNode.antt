@@ -1,7 +1,9 @@
 -- The s-keys of a node ascend, so the number of those at the key or below it is the place of the child that the key
 -- belongs to.
-use Rattle.std.proofs.Common.{◌≡◌, ℕ, zero, suc, ◌+◌, ◌*◌, ◌<◌, ◌≤◌, Bool, true, false, not, List, length, get_or, take, drop, sym, refl, ap, ◌∙◌, subst, inl, inr, suc-mul, zero-mul, arith}
+use Rattle.std.proofs.Common.{◌≡◌, ℕ, zero, suc, ◌+◌, ◌*◌, ◌<◌, ◌≤◌, Bool, true, false, not, List, [], ◌∷◌, length, get_or, take, drop, sym, refl, ap, ◌∙◌, subst, inl, inr, suc-mul, zero-mul, arith}
 use Rattle.std.specs.List.{AllByRecursion}
+use Rattle.std.specs.Ordering.{is_le}
+use Rattle.std.specs.Int.{w16, from_be_bytes}
 use Rattle.std.proofs.lemmas.List.{drop-drop}
 use Rattle.std.proofs.lemmas.Bool.{not-true, not-false, cases_Bool, both_ways}
 use Rattle.records.specs.Bytes.{word}
@@ -13,11 +15,11 @@ use Rattle.tree.specs.Keys.{key_below}
 use Rattle.tree.proofs.Keys.{key_ordered}
 use Rattle.layout.specs.Slots.{s_key_list}
 use Rattle.layout.specs.Nodes.{children_from}
+use Rattle.layout.specs.Rows.{key_in, Divides}
 use Rattle.layout.specs.Holds.{ValidKey}
 use Rattle.layout.proofs.Numbers.{two_at}
-use Rattle.search.specs.Rows.{key_in, key_before, Divides}
 use Rattle.search.specs.Found.{BelongsTo}
-use Rattle.search.proofs.Divided.{divides_same, upto_by_tree}
+use Rattle.search.proofs.Divided.{divides_same, divides_row, upto_by_tree}
 
 -- the next key of a row
 next_key : (w i : ℕ) (keys : List ℕ) → key_in w w keys (suc i) ≡ key_in w w (drop w keys) i
@@ -112,17 +114,20 @@ s_key_valid kind w (suc n) (suc i) slots keys v l =
 
 -- the child as the code finds it
 pub child_found :
-    (kind : Kind) → Lawful kind → (key slots keys bytes : List ℕ) (stride n r slot : ℕ) → stride ≡ kind.key_width
-    → bytes ≡ keys → 2 * r + 1 < length slots → slot ≡ get_or slots (2 * r) 0 * 256 + get_or slots (2 * r + 1) 0
-    → Divides (key_before kind true key stride bytes) n r
+    (kind : Kind) → Lawful kind → (key slots keys bytes : List ℕ) (w v m n r slot : ℕ) → w ≡ kind.key_width → v ≡ 0
+    → m ≡ n → bytes ≡ keys → 2 * r + 1 < length slots
+    → slot ≡ from_be_bytes w16 (get_or slots (2 * r) 0 ∷ get_or slots (2 * r + 1) 0 ∷ [])
+    → Divides (λ i. is_le (kind.order (key_in w (w + v) bytes i) key)) m r
     → BelongsTo kind key (children_from kind.key_width n slots keys) slot
-child_found kind law key slots keys bytes stride n r slot wide same there is d = λ lo hi ascend valid good.
-    let w = kind.key_width in
-    let cs = children_from w n slots keys in
-    let d₁ = subst (λ b. Divides (key_before kind true key stride b) n r) same d in
-    let d₂ = subst (λ s. Divides (key_before kind true key s keys) n r) wide d₁ in
-    let d₃ = divides_same _ (λ i. not (key_below kind key (key_in w w keys i))) n r (λ i l.
-    upto_by_tree kind law (key_in w w keys i) key (s_key_valid kind w n i slots keys valid l) good) d₂ in
-    let place = place_divides (key_ordered kind law) hi w key lo n r slots keys ascend d₃ in
-    is ∙ sym (two_at (2 * r) slots there) ∙ sym (child_slot w n r slots keys d.within)
+child_found kind law key slots keys bytes w v m n r slot wide none many same there is d = λ lo hi ascend valid good.
+    let x = kind.key_width in
+    let cs = children_from x n slots keys in
+    let alone : x + 0 ≡ x = omega arith in
+    let d₁ = divides_row (λ k. is_le (kind.order k key)) x 0 n w v m r keys bytes wide none many same d in
+    let d₂ = subst (λ s. Divides (λ i. is_le (kind.order (key_in x s keys i) key)) n r) alone d₁ in
+    let d₃ = divides_same _ (λ i. not (key_below kind key (key_in x x keys i))) n r (λ i l.
+    upto_by_tree kind law (key_in x x keys i) key (s_key_valid kind x n i slots keys valid l) good) d₂ in
+    let place = place_divides (key_ordered kind law) hi x key lo n r slots keys ascend d₃ in
+    let two : slot ≡ get_or slots (2 * r) 0 * 256 + get_or slots (2 * r + 1) 0 = is ∙ omega arith in
+    two ∙ sym (two_at (2 * r) slots there) ∙ sym (child_slot x n r slots keys d₃.within)
     ∙ ap (λ i. child_at i cs) (sym place)

@@ -9,7 +9,7 @@ use Rattle.shape.specs.Shape.{Shape, legal}
 use Rattle.tree.specs.Children.{ask_child}
 use Rattle.tree.specs.Tree.{find}
 use Rattle.tree.specs.Keys.{key_below}
-use Rattle.layout.specs.Pages.{node_page}
+use Rattle.layout.specs.Pages.{ByteEntry, node_page}
 use Rattle.layout.specs.Slots.{node_page_of}
 use Rattle.layout.specs.Nodes.{SlotChildren, child_count_on, entry_count_on, children_from}
 use Rattle.layout.specs.Holds.{ByteTree, ValidKey, SlotHolds}
@@ -81,7 +81,7 @@ module _
       ∙ and_from _ _ (le-leb 2 c r.two) (le-leb c shape.fanout r.most)
 
   -- the tests of the counts pass
-  pub counts_pass :
+  counts_pass :
       (h : ℕ) (t : ByteTree h) (p : ℕ) (buffer : List ℕ) → On h t → p ≡ node_page_of shape t.slot → buffer ≡ page p
       → (may_have h (child_count_on buffer) shape.fanout ≡ true) × (entry_count_on buffer ≤ shape.capacity)
   counts_pass h t p buffer o e is =
@@ -110,19 +110,19 @@ module _
     node_says zero t place f = sym (f.says None)
     node_says (suc h) t place f = sym (f.says _)
 
-    pub step_found :
+    step_found :
         (h : ℕ) (t : ByteTree h) (place : Place) (value : List ℕ) → place.saying ≡ Live value
         → PlaceOf kind key t.entries place → Says h t (Ok (Found value))
     step_found h t place value e f =
         node_says h t place f ∙ ap (λ s. said_by kind.value_width s (below_says h t)) e
 
-    pub step_removed :
+    step_removed :
         (h : ℕ) (t : ByteTree h) (place : Place) → place.saying ≡ Tombstone → PlaceOf kind key t.entries place
         → Says h t (Ok Absent)
     step_removed h t place e f =
         node_says h t place f ∙ ap (λ s. said_by kind.value_width s (below_says h t)) e
 
-    pub step_absent :
+    step_absent :
         (h : ℕ) (t : ByteTree h) (place : Place) → h ≡ 0 → place.saying ≡ Nothing
         → PlaceOf kind key t.entries place → Says h t (Ok Absent)
     step_absent zero t place z e f = sym (f.says None) ∙ ap (λ s. said_by kind.value_width s None) e
@@ -162,7 +162,7 @@ module _
         b' r.low r.high r.ascend r.valid valid
         ∙ (child_for kind law shape fit page used small h key t o.subtree).slot
 
-    pub step_down :
+    step_down :
         (h : ℕ) (t : ByteTree h) (place : Place) (p : ℕ) (buffer : List ℕ) (node : NodeParts)
         (r : Result Step PageFault) → 1 ≤ h → On h t → p ≡ node_page_of shape t.slot → buffer ≡ page p
         → NodeOf buffer node → place.saying ≡ Nothing → PlaceOf kind key t.entries place
@@ -173,7 +173,7 @@ module _
     step_down (suc h) t place p buffer node (Ok (Child slot)) one o e is of n f d =
         let c = child_for kind law shape fit page used small h key t o.subtree in
         record {
-          child = c.child;
+          node = c.child;
           at = sym (child_slot h t p buffer node slot o e is of d.1);
           branching = child_branching kind law shape fit page used small h key t o.subtree;
           same = c.found
@@ -195,7 +195,7 @@ goes_on used h Belongs (Ok (Child slot)) one d = (one, d.0)
 goes_on used h Belongs (Err fault) one d = tt
 
 -- the node page of a node that stands is there
-pub node_there :
+node_there :
     (kind : Kind) (shape : Shape) (pages : List (List ℕ)) (used h : ℕ) (t : ByteTree h) (p : ℕ) → length pages ≤ p
     → Branching kind shape (page_at pages) used h t → p ≡ node_page_of shape t.slot → ⊥
 unfolding node_page
@@ -204,22 +204,70 @@ node_there kind shape pages used zero t p l o e =
 node_there kind shape pages used (suc h) t p l o e =
     page_there pages p _ _ l (ap (page_at pages) e ∙ o.subtree.stands.0.node)
 
--- the d-tree of a node as the code searches it, after the node page was read
-pub record Searched
-    (kind : Kind) (h : ℕ) (t : ByteTree h) (pages : List (List ℕ)) (E p : ℕ) (node : NodeParts) : Type 0 where
-  pub tree : DTreeOn kind E (page_at pages) (p + 1) t.entries
-  pub counted : length t.entries ≡ node.entries
+-- one node as the code reads it
+module _
+    (kind : Kind) (law : Lawful kind) (shape : Shape) (before after : List (List ℕ)) (used : ℕ) (most : used ≤ 1024)
+    (key : List ℕ) (h slot p : ℕ) (at : p ≡ node_page_of shape slot) where
+  -- what is shown of each node that stands on the pages
+  abbrev EachNode : (ByteTree h → Type 0) → Type 0
+  EachNode Shown =
+      (t : ByteTree h) → legal (record_width kind) shape ≡ true → Branching kind shape (page_at before) used h t
+      → t.slot ≡ slot → ValidKey kind key → Shown t
 
-pub d_tree_searched :
-    (kind : Kind) → Lawful kind → (shape : Shape) → legal (record_width kind) shape ≡ true
-    → (before after : List (List ℕ)) (used : ℕ) → used ≤ 1024 → (h : ℕ) (t : ByteTree h) (p : ℕ) (buffer : List ℕ)
-    (E : ℕ) (node : NodeParts) → Branching kind shape (page_at before) used h t → p ≡ node_page_of shape t.slot
-    → buffer ≡ page_at before p → after ≡ before → E ≡ shape.per_page → NodeOf buffer node
-    → Searched kind h t after E p node
-d_tree_searched kind law shape good before after used most h t p buffer E node o e is same per n = record {
-  tree =
-      subst (λ x. DTreeOn kind E (page_at x) (p + 1) t.entries) (sym same)
-      (subst (λ x. DTreeOn kind x (page_at before) (p + 1) t.entries) (sym per)
-      (d_tree_on kind law shape good (page_at before) used most h t p o e));
-  counted = entries_counted kind law shape good (page_at before) used most h t p buffer o e is ∙ sym n.entries;
-}
+  abbrev here : (t : ByteTree h) → t.slot ≡ slot → p ≡ node_page_of shape t.slot
+  here t is = at ∙ ap (node_page_of shape) (sym is)
+
+  pub none_missing : length before ≤ p → EachNode (λ t. ⊥)
+  none_missing past t good o is valid = node_there kind shape before used h t p past o (here t is)
+
+  pub none_refused :
+      (buffer : List ℕ) → buffer ≡ page_at before p
+      → (may_have h (child_count_on buffer) shape.fanout ≡ true → entry_count_on buffer ≤ shape.capacity → ⊥)
+      → EachNode (λ t. ⊥)
+  none_refused buffer read refused t good o is valid =
+      let pass = counts_pass kind law shape good (page_at before) used most h t p buffer o (here t is) read in
+      refused pass.0 pass.1
+
+  module _
+      (buffer : List ℕ) (node : NodeParts) (read : buffer ≡ page_at before p) (same : after ≡ before)
+      (parts : NodeOf buffer node) where
+    -- what the search of the d-tree behind the node page promises
+    abbrev Searched : (List ByteEntry → Type 0) → Type 0
+    Searched Gives =
+        (es : List ByteEntry) → DTreeOn kind shape.per_page (page_at after) (p + 1) es → length es ≡ node.entries
+        → ValidKey kind key → Gives es
+
+    pub entries_found : (Gives : List ByteEntry → Type 0) → Searched Gives → EachNode (λ t. Gives t.entries)
+    entries_found Gives f t good o is valid =
+        let on = d_tree_on kind law shape good (page_at before) used most h t p o (here t is) in
+        let many = entries_counted kind law shape good (page_at before) used most h t p buffer o (here t is) read in
+        f t.entries (subst (λ x. DTreeOn kind shape.per_page (page_at x) (p + 1) t.entries) (sym same) on)
+        (many ∙ sym parts.entries) valid
+
+    module _ (place : Place) (searched : Searched (λ es. PlaceOf kind key es place)) where
+      abbrev NodeSays : Result Step PageFault → Type 0
+      NodeSays r = EachNode (λ t. StepAt kind shape (page_at before) used key h t r)
+
+      pub says_found : (value : List ℕ) → place.saying ≡ Live value → NodeSays (Ok (Found value))
+      says_found value e t good o is valid =
+          step_found kind law shape good (page_at before) used most key valid h t place value e
+          (entries_found _ searched t good o is valid)
+
+      pub says_removed : place.saying ≡ Tombstone → NodeSays (Ok Absent)
+      says_removed e t good o is valid =
+          step_removed kind law shape good (page_at before) used most key valid h t place e
+          (entries_found _ searched t good o is valid)
+
+      pub says_absent : h ≡ 0 → place.saying ≡ Nothing → NodeSays (Ok Absent)
+      says_absent low e t good o is valid =
+          step_absent kind law shape good (page_at before) used most key valid h t place low e
+          (entries_found _ searched t good o is valid)
+
+      pub says_below :
+          (r : Result Step PageFault) → 1 ≤ h → place.saying ≡ Nothing
+          → SteppedDown used (BelongsTo kind key (children_from kind.key_width (node.children - 1) node.rest.now
+          (drop (2 * node.children) node.rest.now))) r
+          → NodeSays r
+      says_below r high e d t good o is valid =
+          step_down kind law shape good (page_at before) used most key valid h t place p buffer node r high o
+          (here t is) read parts e (entries_found _ searched t good o is valid) d

@@ -2,7 +2,7 @@
 use Rattle.std.specs.Prelude.{◌≡◌, ℕ, ◌+◌, ◌*◌, ◌/◌, ◌%◌, ◌^◌, ◌<◌, cond, not, ◌&&◌, List, length, take, drop, Some, None, Ok, Err, Option, Result, ◌==◌, nat_lt}
 use Rattle.std.specs.List.{AllByRecursion}
 use Rattle.std.specs.Str.{bytes_eq}
-use Rattle.records.specs.Kind.{Kind}
+use Rattle.records.specs.Kind.{Kind, record_width}
 use Rattle.shape.specs.Shape.{ceiling}
 use Rattle.tree.specs.Entries.{Low, High, Ascending, read}
 use Rattle.tree.specs.Children.{child_at, place_of, SKeysAscend}
@@ -10,11 +10,11 @@ use Rattle.tree.specs.Keys.{key_below}
 use Rattle.layout.specs.Pages.{ByteEntry, head_page, leaf_page}
 use Rattle.layout.specs.Slots.{s_key_list, first_key, first_keys}
 use Rattle.layout.specs.LeafPages.{value_unless}
+use Rattle.layout.specs.Rows.{key_in, value_in, Divides}
 use Rattle.layout.specs.Search.{rank}
 use Rattle.layout.specs.Nodes.{SlotChildren}
 use Rattle.layout.specs.Holds.{ValidKey, ValidEntry}
 use Rattle.layout.specs.declared.faults.PageFault.{PageFault}
-use Rattle.search.specs.Rows.{key_in, Divides}
 use Rattle.search.specs.declared.d_tree.Place.{Place}
 use Rattle.search.specs.declared.d_tree.Saying.{Saying}
 use Rattle.search.specs.declared.d_tree.Saying.TheVariants.{Nothing, Tombstone, Live}
@@ -25,15 +25,12 @@ said_by v Nothing older = older
 said_by v Tombstone older = None
 said_by v (Live bytes) older = Some (take v bytes)
 
--- the value of entry i in a row of entries
-abbrev pub value_in : Kind → (stride : ℕ) → List ℕ → ℕ → List ℕ
-value_in kind stride bytes i = take kind.value_width (drop kind.key_width (drop (i * stride) bytes))
-
 -- what entry i of a leaf page says of a key, if there is such an entry and it has that key
-abbrev pub said_at : Kind → (marks stride count : ℕ) → List ℕ → ℕ → List ℕ → Option (List ℕ) → Option (List ℕ)
-said_at kind marks stride count bytes i key older =
-    cond (nat_lt i count && bytes_eq (key_in kind.key_width stride bytes i) key)
-    (value_unless ((marks / 2 ^ i) % 2 == 1) (value_in kind stride bytes i))
+abbrev pub said_at : Kind → (marks count : ℕ) → List ℕ → ℕ → List ℕ → Option (List ℕ) → Option (List ℕ)
+said_at kind marks count bytes i key older =
+    cond (nat_lt i count && bytes_eq (key_in kind.key_width (record_width kind) bytes i) key)
+    (value_unless ((marks / 2 ^ i) % 2 == 1)
+    (value_in kind.key_width kind.value_width (record_width kind) bytes i))
     older
 
 -- A place in a d-tree is the key's: so many entries are below the key, and the entry with the key, if there is one,

@@ -1,5 +1,5 @@
 -- A node page as a search reads it.
-use Rattle.std.specs.Prelude.{◌≡◌, ℕ, zero, suc, ◌<◌, ◌≤◌, Bool, cond, ◌&&◌, List, take, drop, Some, None, Ok, Err, Result, ◌==◌, nat_le}
+use Rattle.std.specs.Prelude.{◌≡◌, ℕ, zero, suc, ◌<◌, ◌≤◌, Bool, cond, ◌&&◌, List, take, drop, Some, None, Ok, Err, Option, Result, ◌==◌, nat_le}
 use Rattle.records.specs.Kind.{Kind}
 use Rattle.shape.specs.Shape.{Shape}
 use Rattle.tree.specs.Tree.{find}
@@ -36,17 +36,17 @@ SteppedDown used Belongs (Ok (Child slot)) = (slot < used) × Belongs slot
 SteppedDown used Belongs (Err fault) = (slot : ℕ) × (used ≤ slot) × Belongs slot
 
 module _ (kind : Kind) (shape : Shape) (page : ℕ → List ℕ) (used : ℕ) (key : List ℕ) where
-  -- a child stands on its pages and says what the node above it says
-  pub record ChildSays (h : ℕ) (t : ByteTree (suc h)) (slot : ℕ) : Type 0 where
-    pub child : ByteTree h
-    pub at : child.slot ≡ slot
-    pub branching : Branching kind shape page used h child
-    pub same : find (key_below kind) (suc h) key t ≡ find (key_below kind) h key child
+  -- a node stands in a slot on its pages and says this
+  pub record NodeSays (h slot : ℕ) (said : Option (List ℕ)) : Type 0 where
+    pub node : ByteTree h
+    pub at : node.slot ≡ slot
+    pub branching : Branching kind shape page used h node
+    pub same : said ≡ find (key_below kind) h key node
 
   -- one step of the search at a node that stands on its pages
   abbrev pub StepAt : (h : ℕ) → ByteTree h → Result Step PageFault → Type 0
   StepAt h t (Ok (Found value)) = find (key_below kind) h key t ≡ Some (take kind.value_width value)
   StepAt h t (Ok Absent) = find (key_below kind) h key t ≡ None
   StepAt zero t (Ok (Child slot)) = ⊥
-  StepAt (suc h) t (Ok (Child slot)) = ChildSays h t slot
+  StepAt (suc h) t (Ok (Child slot)) = NodeSays h slot (find (key_below kind) (suc h) key t)
   StepAt h t (Err fault) = ⊥

@@ -1,6 +1,6 @@
 // The shape of an index: how many children and entries a node has, how many entries a leaf page, and every size that
 // follows from these. A `Shape` is made only within the limits, so whoever holds one divides and adds without a test.
-// It uses nothing but the language.
+// Its definitions use those of `records` for tests of numbers; its code uses nothing but the language.
 #![tactic(auto)]
 
 ghost use Rattle.std.specs.Prelude.{◌≡◌, ◌+◌, ◌*◌, ◌≤◌};
@@ -21,7 +21,7 @@ pub mod size;
 pub use size::Shape;
 
 // Three numbers that are handed in for a shape, of any size and not tested yet.
-#[derive(Clone, Copy)]
+#[derive(Clone, Copy, Debug, PartialEq, Eq)]
 pub struct ShapeNumbers {
     pub fanout: u64,
     pub capacity: u64,
@@ -29,17 +29,17 @@ pub struct ShapeNumbers {
 }
 
 // The room for entries on a leaf page, in bytes.
-const LEAF_ROOM: usize = 503;
+pub const LEAF_ROOM: usize = 503;
 
 // No store has more slots.
 const MOST_SLOTS: u32 = 1024;
 
-// A quotient, rounded up.
-fn ceiling_of(n: u16, d: u16) -> u16
-    requires { (1 ≤ d) × (n + d ≤ 65535) }
-    ensures { result ≡ ceiling n d }
+// The leaf pages that so many entries take.
+fn pages_for(entries: u16, per_page: u16) -> u16
+    requires { 1 ≤ per_page }
+    ensures { result ≡ ceiling entries per_page }
 {
-    (n + (d - 1)) / d
+    entries.div_ceil(per_page)
 }
 
 impl Shape {
@@ -58,7 +58,7 @@ impl Shape {
         if !((1 <= per_page) & (per_page <= 64) & (record_width <= LEAF_ROOM)) {
             return None;
         }
-        let pages = ceiling_of(capacity as u16, per_page as u16);
+        let pages = pages_for(capacity as u16, per_page as u16);
         if (per_page as usize * record_width > LEAF_ROOM) | (pages > 16) {
             return None;
         }
@@ -96,14 +96,21 @@ impl Shape {
         ensures { result ≡ batch_of (chosen self.now) }
     {
         let most = self.capacity;
-        most / (self.fanout as u16 + 1)
+        most / (u16::from(self.fanout) + 1)
     }
 
     // L: the leaf pages of a slot.
     pub fn leaf_pages(&self) -> u16
         ensures { result ≡ leaf_pages_of (chosen self.now) }
     {
-        ceiling_of(self.capacity, self.per_page as u16)
+        pages_for(self.capacity, self.per_page.into())
+    }
+
+    // The leaf pages that so many entries of a node fill.
+    pub fn pages_of(&self, entries: usize) -> usize
+        ensures { result ≡ ceiling entries (chosen self.now).per_page }
+    {
+        entries.div_ceil(self.per_page.into())
     }
 
     // W: the pages of a slot.
@@ -117,21 +124,21 @@ impl Shape {
     pub fn least_children(&self) -> u16
         ensures { result ≡ least_children_of (chosen self.now) }
     {
-        ceiling_of(self.fanout as u16, 2)
+        u16::from(self.fanout).div_ceil(2)
     }
 
     // g: every g accepted changes make room for at most one more leaf node.
     pub fn changes_per_leaf(&self) -> u16
         ensures { result ≡ changes_per_leaf_of (chosen self.now) }
     {
-        1 + self.capacity - ceiling_of(self.capacity + self.batch(), 2)
+        1 + self.capacity - (self.capacity + self.batch()).div_ceil(2)
     }
 
     // N: the slots of a store of so many pages.
     pub fn slots(&self, pages: u32) -> u32
         ensures { result ≡ slots_of (chosen self.now) pages }
     {
-        MOST_SLOTS.min(pages.saturating_sub(1) / self.slot_pages() as u32)
+        MOST_SLOTS.min(pages.saturating_sub(1) / u32::from(self.slot_pages()))
     }
 
     // The bytes of a record, key and value.
@@ -145,6 +152,7 @@ impl Shape {
     pub fn work_bytes(&self) -> u32
         ensures { result ≡ work_bytes_of (chosen self.now) self.now.record_width }
     {
-        (2 * self.capacity as u32 + self.batch() as u32) * (self.record_width as u32 + 1)
+        (2 * u32::from(self.capacity) + u32::from(self.batch()))
+            * (u32::from(self.record_width) + 1)
     }
 }

@@ -3,7 +3,7 @@
 use Rattle.std.proofs.Common.{◌≡◌, ℕ, ◌+◌, ◌*◌, ◌/◌, ◌<◌, ◌≤◌, min, ltb, List, [], length, get_or, set, sym, ap, ◌∙◌, ⊎_elim, arith}
 use Rattle.std.proofs.lemmas.List.{ext_get_or, same_lists, length-set, get_or-set_same, get_or-set_other}
 use Rattle.std.proofs.lemmas.Bool.{cases_eq, cond_both, ltb-true, ltb-false}
-use Rattle.stores.specs.Places.{low_bytes, place_at, contents, length-contents, get_or-contents}
+use Rattle.stores.specs.Places.{low_bytes, place_at, written, contents, length-contents, get_or-contents}
 use Rattle.stores.specs.Shifting.{
   Inside,
   held,
@@ -13,7 +13,7 @@ use Rattle.stores.specs.Shifting.{
   length-shifting,
   get_or-shifting,
 }
-use Rattle.stores.proofs.Writing.{written, low_same, place_same, place_other, length-written}
+use Rattle.stores.proofs.Writing.{low_same, place_same, place_other, length-written}
 
 pub shifted :
     (area table : List ℕ) (size spare p : ℕ) (b : List ℕ)

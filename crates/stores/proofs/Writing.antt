@@ -3,11 +3,7 @@ use Rattle.std.proofs.Common.{◌≡◌, ℕ, suc, ◌+◌, ◌-◌, ◌*◌, �
 use borrow.Rule.Slice.PartMut.{put_mid}
 use Rattle.std.proofs.lemmas.List.{same_lists, length-set, get_or-set_same, get_or-set_other, length-take, length-drop, length-append, length-take-le, length-map, drop_at, take_at, get_or-take, get_or-drop, get_or_append_left, get_or-append_right, get_or_past, map-set}
 use Rattle.std.proofs.lemmas.Bool.{cases_eq, cases_lt}
-use Rattle.stores.specs.Places.{low_bytes, place_at, places, contents, length-places, get_or-places, length-place_at}
-
--- the area with place p written
-abbrev pub written : ℕ → List ℕ → List ℕ → List ℕ
-written p area b = put_mid (512 * p) 512 area b
+use Rattle.stores.specs.Places.{low_bytes, place_at, written, places, contents, length-places, get_or-places, length-place_at}
 
 pub low_same : (xs : List ℕ) → ((i : ℕ) → get_or xs i 0 < 256) → low_bytes xs ≡ xs
 low_same [] h = refl

@@ -1,5 +1,5 @@
 -- The places of an area: its whole pieces of 512 bytes, one after the other; a rest is no place.
-use Rattle.std.specs.Prelude.{◌≡◌, ℕ, zero, suc, ◌+◌, ◌*◌, ◌/◌, ◌%◌, ◌<◌, ◌≤◌, min, List, [], ◌∷◌, map, length, take, drop, slice_index_or}
+use Rattle.std.specs.Prelude.{◌≡◌, ℕ, zero, suc, ◌+◌, ◌*◌, ◌/◌, ◌%◌, ◌<◌, ◌≤◌, min, List, [], ◌∷◌, ◌++◌, map, length, take, drop, slice_index_or}
 use Rattle.std.proofs.Common.{ap, ◌∙◌, arith}
 use Rattle.std.specs.List.{range_with_len, AllByRecursion}
 use Rattle.std.proofs.lemmas.List.FromFn.{length-map-range_with_len, get_or-map-range_with_len}
@@ -19,6 +19,10 @@ places most area = map (place_at area) (range_with_len 0 (min most (length area 
 -- what the places hold
 abbrev pub contents : ℕ → List ℕ → List (List ℕ)
 contents most area = map low_bytes (places most area)
+
+-- the area with place p written
+abbrev pub written : ℕ → List ℕ → List ℕ → List ℕ
+written p area page = take (512 * p) area ++ (page ++ drop 512 (drop (512 * p) area))
 
 pub length-places : (most : ℕ) (area : List ℕ) → length (places most area) ≡ min most (length area / 512)
 length-places most area = length-map-range_with_len (place_at area) 0 _

@@ -6,7 +6,7 @@
 ghost use Rattle.std.specs.Prelude.{◌≡◌, length, MatchResult};
 ghost use Rattle.stores.specs.Store.{StoreState, Lawful, WasRead, WasWritten, NotThere};
 
-mod places;
+mod area;
 pub mod plain;
 pub mod shifting;
 
@@ -17,7 +17,7 @@ pub use shifting::ShiftingStore;
 pub type Page = [u8; 512];
 
 // A page that is not there, and how many there are.
-#[derive(Clone, Copy)]
+#[derive(Clone, Copy, Debug, PartialEq, Eq)]
 pub struct StoreFault {
     pub page: u32,
     pub size: u32,

@@ -1,8 +1,7 @@
 // The shifting store: one place more than pages. A write goes into the spare place, and the page's old place becomes
 // the spare one, so that a page is never overwritten in place.
-ghost use Rattle.std.specs.Prelude.{◌≡◌, ℕ, ◌+◌, ◌*◌, ◌/◌, ◌<◌, ◌≤◌, length, MatchOption, slice_index, slice_set};
-ghost use Rattle.stores.specs.Store.{touched_once};
-ghost use Rattle.stores.specs.Places.{place_at, contents};
+ghost use Rattle.std.specs.Prelude.{◌≡◌, ℕ, ◌<◌, ◌≤◌, length, slice_index, slice_set};
+ghost use Rattle.stores.specs.Places.{contents};
 ghost use Rattle.stores.specs.Shifting.{
   Inside,
   Apart,
@@ -13,13 +12,14 @@ ghost use Rattle.stores.specs.Shifting.{
   shifting_lawful,
 };
 
-use crate::places::{PAGE_BYTES, copy_place};
+use crate::area::{Area, PAGE_BYTES, check_page};
 use crate::{Page, PageStore, StoreFault};
+use std::array;
 
 const MOST_PAGES: usize = 1024;
 
 // The place of each page, and the spare one. It stands alone, since a struct that lends parts of an area has no
-// invariant.
+// invariant. The size stands beside the array: there is no heap, and no store of this kind has more pages.
 #[derive(Clone, Copy)]
 struct Table {
     places: [u16; 1024],
@@ -31,6 +31,14 @@ struct Table {
     ghost apart: { Apart places size },
 }
 
+// Page p lies in place p at first.
+fn own_place(p: usize) -> u16
+    requires { p < 1024 }
+    ensures { result ≡ p }
+{
+    p as u16
+}
+
 impl Table {
     // Page p in place p, and the place behind the last page spare.
     fn new(size: u16) -> Table
@@ -39,12 +47,8 @@ impl Table {
         ensures size { result.size ≡ size }
         ensures spare { result.spare ≡ size }
     {
-        let mut places = [0; 1024];
-        for i in 0..1024u16 {
-            places[i as usize] = i;
-        }
         Table {
-            places,
+            places: array::from_fn(own_place),
             size,
             spare: size,
         }
@@ -66,9 +70,8 @@ impl Table {
 
 #[derive(Drop)]
 pub struct ShiftingStore<'a> {
-    area: &'a mut [u8],
+    area: Area<'a>,
     table: Table,
-    count: u64,
 }
 
 // The pages of an area of so many bytes.
@@ -92,99 +95,51 @@ fn room_for(size: u16, bytes: usize) -> u32
 impl<'a> ShiftingStore<'a> {
     // A store over the places of the area, one fewer than there are, with page p in place p and the count 0.
     pub fn new(area: &'a mut [u8]) -> ShiftingStore<'a>
-        ensures { shifting_state result.area.now result.table.places result.table.size result.count
+        ensures { shifting_state result.area.bytes.now result.table.places result.table.size result.area.count
             ≡ record { pages = contents (shifting_size (length area.old)) area.old; count = 0 } }
     {
         let table = Table::new(pages_in(area.len()));
         ShiftingStore {
-            area,
+            area: Area::new(area),
             table,
-            count: 0,
         }
     }
 
-    // The pages that the area has room for.
-    fn held(&self) -> u32
-        ensures { result ≡ length (shifting_pages self.now.area.now self.now.table.places
-            self.now.table.size) }
-    {
-        room_for(self.table.size, self.area.len())
-    }
-
-    // The fault of a page that is not there.
-    fn absent(&self, p: u32) -> Option<StoreFault>
-        ensures { MatchOption result
-            (p < length (shifting_pages self.now.area.now self.now.table.places
-            self.now.table.size))
-            (λ f. (length (shifting_pages self.now.area.now self.now.table.places
-            self.now.table.size) ≤ p)
-            × (f ≡ record {
-              page = p;
-              size = length (shifting_pages self.now.area.now self.now.table.places
-                  self.now.table.size);
-            })) }
-    {
-        let size = self.held();
-        if p < size {
-            None
-        } else {
-            Some(StoreFault { page: p, size })
-        }
-    }
-
-    fn fetch(&self, p: u32, buffer: &mut Page)
-        requires page { p < self.now.table.size }
-        requires room { 512 * self.now.table.size + 512 ≤ length self.now.area.now }
-        ensures page { buffer.new
-            ≡ place_at self.now.area.now (slice_index self.now.table.places p) }
-        ensures bytes { (i : ℕ) → slice_index buffer.new i < 256 }
+    // The place that page p is read from.
+    fn place(&self, p: u32) -> usize
+        requires { p < self.now.table.size }
+        ensures { result ≡ slice_index self.now.table.places p }
     {
         let place = self.table.places[p as usize];
-        copy_place(self.area, place as u32, buffer);
-    }
-
-    // One page more was touched.
-    fn touch(&mut self)
-        ensures area { self.new.area.now ≡ self.old.area.now }
-        ensures table { self.new.table ≡ self.old.table }
-        ensures count { self.new.count ≡ touched_once self.old.count }
-    {
-        self.count = self.count.wrapping_add(1);
+        place as usize
     }
 }
 
 impl PageStore for ShiftingStore<'_> {
-    ghost state = { λ s. shifting_state s.area.now s.table.places s.table.size s.count };
+    ghost state = { λ s. shifting_state s.area.bytes.now s.table.places s.table.size s.area.count };
 
-    ghost lawful = { λ s. shifting_lawful s.area.now s.table.places s.table.size s.table.spare
-        s.count
+    ghost lawful = { λ s. shifting_lawful s.area.bytes.now s.table.places s.table.size s.table.spare s.area.count
         s.table.few s.table.inside };
 
     fn size(&self) -> u32 {
-        self.held()
+        room_for(self.table.size, self.area.len())
     }
 
     fn count(&self) -> u64 {
-        self.count
+        self.area.count
     }
 
     fn read(&mut self, p: u32, buffer: &mut Page) -> Result<(), StoreFault> {
-        if let Some(fault) = self.absent(p) {
-            return Err(fault);
-        }
-        self.fetch(p, buffer);
-        self.touch();
+        check_page(p, self.size())?;
+        let place = self.place(p);
+        self.area.read(place, buffer);
         Ok(())
     }
 
     fn write(&mut self, p: u32, buffer: &Page) -> Result<(), StoreFault> {
-        if let Some(fault) = self.absent(p) {
-            return Err(fault);
-        }
-        let at = PAGE_BYTES * self.table.spare as usize;
-        self.area[at..at + PAGE_BYTES].copy_from_slice(buffer);
+        check_page(p, self.size())?;
+        self.area.write(self.table.spare as usize, buffer);
         self.table.shift(p as usize);
-        self.touch();
         Ok(())
     }
 }

@@ -13,162 +13,116 @@ ghost use Rattle.tree.specs.Keys.{KindsOrderKeys};
 ghost use Rattle.tree.specs.Examples.{WorkedExamples};
 
 // A change that is not refused keeps the index sound, and finds the slots that it takes.
-pub fn changes_keep_the_index_sound() -> u8
+pub fn changes_keep_the_index_sound()
     ensures { Everywhere StaysSound }
-{
-    0
-}
+{}
 
 // A put or a remove changes the map at its own key, as it should, and nowhere else.
-pub fn changes_change_their_key_alone() -> u8
+pub fn changes_change_their_key_alone()
     ensures { Everywhere ChangesItsKey }
-{
-    0
-}
+{}
 
 // An index that means an ordered map means, after a change, that map after the put or the remove.
-pub fn changes_change_the_map() -> u8
+pub fn changes_change_the_map()
     ensures { Everywhere ChangesTheMap }
-{
-    0
-}
+{}
 
 // A change moves at most levels - 1 batches.
-pub fn changes_move_few_batches() -> u8
+pub fn changes_move_few_batches()
     ensures { Everywhere FewBatches }
-{
-    0
-}
+{}
 
 // A change takes at most levels + 1 slots, and levels never fall.
-pub fn changes_take_few_slots() -> u8
+pub fn changes_take_few_slots()
     ensures { Everywhere FewSlots }
-{
-    0
-}
+{}
 
 // Every node on the path has a full batch to move, and no node holds too much on the way.
-pub fn relief_overflows_nothing() -> u8
+pub fn relief_overflows_nothing()
     ensures { Everywhere NothingOverflows }
-{
-    0
-}
+{}
 
 // What a change moves lowers the weight, which is the sum of height times entries, and the new entry adds its height.
-pub fn weight_bounds_batches() -> u8
+pub fn weight_bounds_batches()
     ensures { Everywhere WeightBoundsBatches }
-{
-    0
-}
+{}
 
 // A change raises the leaf potential by at most one.
-pub fn leaf_potential_grows_by_one() -> u8
+pub fn leaf_potential_grows_by_one()
     ensures { Everywhere PotentialGrowsByOne }
-{
-    0
-}
+{}
 
 // From the empty index every list of changes that fits into 1,024 slots leaves a sound index.
-pub fn histories_stay_sound() -> u8
+pub fn histories_stay_sound()
     ensures { Everywhere AlwaysSound }
-{
-    0
-}
+{}
 
 // In 1,024 slots or fewer every list of changes asked for, refused or not, leaves a sound index.
-pub fn histories_stay_within_slots() -> u8
+pub fn histories_stay_within_slots()
     ensures { Everywhere AlwaysWithinSlots }
-{
-    0
-}
+{}
 
 // From the empty index every list of changes leaves the plain ordered map of the same puts and removes.
-pub fn histories_keep_the_map() -> u8
+pub fn histories_keep_the_map()
     ensures { Everywhere AlwaysTheMap }
-{
-    0
-}
+{}
 
 // Of n changes, all batches together move at most n times levels - 1 entries.
-pub fn histories_move_few_batches() -> u8
+pub fn histories_move_few_batches()
     ensures { Everywhere BatchesInAll }
-{
-    0
-}
+{}
 
 // Of n changes, every g make at most one leaf node more.
-pub fn histories_make_few_leaves() -> u8
+pub fn histories_make_few_leaves()
     ensures { Everywhere LeavesInAll }
-{
-    0
-}
+{}
 
 // Two levels and more have at least two times u to the power levels - 2 leaf nodes.
-pub fn levels_have_many_leaves() -> u8
+pub fn levels_have_many_leaves()
     ensures { Everywhere ManyLeaves }
-{
-    0
-}
+{}
 
 // In 1,024 slots there are at most ten levels.
-pub fn slots_bound_the_levels() -> u8
+pub fn slots_bound_the_levels()
     ensures { Everywhere TenLevels }
-{
-    0
-}
+{}
 
 // At ten levels every change that may take slots is refused.
-pub fn ten_levels_refuse_relief() -> u8
+pub fn ten_levels_refuse_relief()
     ensures { Everywhere TenLevelsRefuse }
-{
-    0
-}
+{}
 
 // A merge is the union in order in which the mover wins, and the merge of two lists entry by entry is that.
-pub fn merge_is_the_union() -> u8
+pub fn merge_is_the_union()
     ensures { Everywhere MergeIsUnion }
-{
-    0
-}
+{}
 
 // The heavy child has the largest tally, and the leftmost of those.
-pub fn heavy_child_is_leftmost() -> u8
+pub fn heavy_child_is_leftmost()
     ensures { Everywhere HeavyIsLeftmost }
-{
-    0
-}
+{}
 
 // The path is the one list of nodes that follows its rule.
-pub fn path_is_pinned() -> u8
+pub fn path_is_pinned()
     ensures { Everywhere PathIsPinned }
-{
-    0
-}
+{}
 
 // Relief of a full inner root leaves a sound root and the same map.
-pub fn relief_keeps_the_map() -> u8
+pub fn relief_keeps_the_map()
     ensures { Everywhere ReliefKeepsTheMap }
-{
-    0
-}
+{}
 
 // The nodes that move a batch are those of the path.
-pub fn relief_follows_the_path() -> u8
+pub fn relief_follows_the_path()
     ensures { Everywhere ReliefFollowsPath }
-{
-    0
-}
+{}
 
 // The order of any record kind is an order of all byte strings, so every law above holds with it.
-pub fn kinds_order_keys() -> u8
+pub fn kinds_order_keys()
     ensures { KindsOrderKeys }
-{
-    0
-}
+{}
 
 // The worked examples of docs/TREE.md hold, by computation.
-pub fn examples_hold() -> u8
+pub fn examples_hold()
     ensures { WorkedExamples }
-{
-    0
-}
+{}

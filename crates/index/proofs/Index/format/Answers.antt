@@ -1,20 +1,17 @@
+use Rattle.std.proofs.Common.{◌≡◌, rules}
 use Rattle.shape.specs.Made.{asked}
 use Rattle.index.specs.Seen.{seen}
+use Rattle.index.specs.Calls.{format_answer, after_format}
 use Rattle.index.proofs.Formats.{format_holds}
 use Rattle.index.proofs.Index.format.Goals as goal
 
-pub returns : goal.returns
-returns g c =
-    let state = g.S.PageStore.state in
-    let model = g.K.RecordKind.model in
+pub returns-clause-holds : goal.returns-clause-holds
+returns-clause-holds g c =
     let before = c.args.self.now in
-    let after = c.format_index.new.self in
-    record {
-      answer = c.format_index.ensures.answer;
-      after = c.format_index.ensures.after;
-      touches = c.format_index.ensures.touches;
-      holds = format_holds (seen state model before) (seen state model after) (asked c.args.numbers)
-          c.format_index.result (g.met.K.RecordKind.lawful before.kind)
-          (g.S.PageStore.lawful before.store)
-          c.format_index.ensures.answer c.format_index.ensures.after;
-    }
+    let x = seen g.S.PageStore.state g.K.RecordKind.model before in
+    let y = seen g.S.PageStore.state g.K.RecordKind.model c.write_formatted-written.new.self in
+    let s = asked c.args.numbers in
+    let answer : c.told.result ≡ format_answer x s = search rules in
+    let after : y ≡ after_format x s = search rules in
+    format_holds x y s c.told.result (g.met.K.RecordKind.lawful before.kind) (g.S.PageStore.lawful before.store)
+    answer after

@@ -1,5 +1,5 @@
 -- The whole store: each exit by what was read and told before it.
-use Rattle.std.proofs.Common.{◌-◌, Ok, Err, ap, ◌∙◌}
+use Rattle.std.proofs.Common.{Ok, Err, ap, ◌∙◌}
 use Rattle.std.proofs.lemmas.Result.{IfOk-from_err, err_from_is_err_and}
 use Rattle.shape.specs.Made.{chosen}
 use Rattle.layout.specs.Header.{header_of}
@@ -49,9 +49,9 @@ returns-in_err-read_page-2 g c =
     let read = c.in_ok-read_page.ensures in
     let passed = c.in_ok-header.ensures in
     let h = header_of c.in_ok-header.header in
-    let shape = ap chosen c.shape-shape.ensures in
+    let shape = ap chosen c.shape.ensures in
     let last =
-    last_by h (chosen c.shape-shape.result) c.from.result c.used.result c.from-2.result
+    last_by h (chosen c.shape.result) c.from.result c.used.result c.from-2.result
     c.slot_pages.result shape c.from.ensures c.used.ensures c.from-2.ensures c.slot_pages.ensures in
     let missing = c.in_err-read_page-2.ensures in
     let r = c.from_residual-in_err-read_page-2.result in
@@ -74,9 +74,9 @@ returns-in_err-inspect_tree g c =
     let read = c.in_ok-read_page.ensures in
     let passed = c.in_ok-header.ensures in
     let h = header_of c.in_ok-header.header in
-    let shape = ap chosen c.shape-shape.ensures in
+    let shape = ap chosen c.shape.ensures in
     let last =
-    last_by h (chosen c.shape-shape.result) c.from.result c.used.result c.from-2.result
+    last_by h (chosen c.shape.result) c.from.result c.used.result c.from-2.result
     c.slot_pages.result shape c.from.ensures c.used.ensures c.from-2.ensures c.slot_pages.ensures in
     let read' = c.in_ok-read_page-2.ensures in
     let tree = c.in_err-inspect_tree.ensures in
@@ -86,8 +86,7 @@ returns-in_err-inspect_tree g c =
     let ended =
     tree_refused k law a whole c.read_page.new.page c.read_page-2.new.page h m read passed.answer _ last
     n b read' tree.pages f (header_found r)
-    (tree_by k law a whole h (chosen c.shape-shape.result) c.used-2.result (c.levels.result - 1)
-    c.root.result n b (Err f) shape c.used-2.ensures (ap (λ l. l - 1) c.levels.ensures) c.root.ensures
+    (tree_by k law a whole h n b (Err f)
     (ap (λ x. x.pages) read'.then ∙ ap (λ x. x.pages) read.then)
     (tree.answer, tree.looked))
     (ap header_found (q.1 ∙ ap Err q.2)) in
@@ -108,15 +107,14 @@ returns g c =
     let read' = c.in_ok-read_page-2.ensures in
     let tree = c.in_ok-inspect_tree.ensures in
     let h = header_of c.in_ok-header.header in
-    let shape = ap chosen c.shape-shape.ensures in
+    let shape = ap chosen c.shape.ensures in
     let last =
-    last_by h (chosen c.shape-shape.result) c.from.result c.used.result c.from-2.result
+    last_by h (chosen c.shape.result) c.from.result c.used.result c.from-2.result
     c.slot_pages.result shape c.from.ensures c.used.ensures c.from-2.ensures c.slot_pages.ensures in
     let ended =
     tree_found k law a whole c.read_page.new.page c.read_page-2.new.page h m read passed.answer _ last
     n b read' tree.pages
-    (tree_by k law a whole h (chosen c.shape-shape.result) c.used-2.result (c.levels.result - 1)
-    c.root.result n b (Ok tt) shape c.used-2.ensures (ap (λ l. l - 1) c.levels.ensures) c.root.ensures
+    (tree_by k law a whole h n b (Ok tt)
     (ap (λ x. x.pages) read'.then ∙ ap (λ x. x.pages) read.then)
     (tree.answer, tree.looked)) in
     record { pages = ended.pages; width = passed.width; answer = ended.answer; looked = ended.looked }

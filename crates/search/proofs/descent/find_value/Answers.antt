@@ -5,8 +5,8 @@ use Rattle.layout.specs.Header.{header_of}
 use Rattle.search.proofs.OnPath.{told_from_root, records_fit}
 use Rattle.search.proofs.descent.find_value.Goals as goal
 
-pub returns-then-per_page-record_width-gt-LEAF_ROOM : goal.returns-then-per_page-record_width-gt-LEAF_ROOM
-returns-then-per_page-record_width-gt-LEAF_ROOM g c =
+pub returns-in_err-keep : goal.returns-in_err-keep
+returns-in_err-keep g c =
     let k = g.K.RecordKind.model c.args.kind.now in
     let law = g.met.K.RecordKind.lawful c.args.kind.now in
     let s₀ = g.S.PageStore.state c.args.store.now in
@@ -17,7 +17,7 @@ returns-then-per_page-record_width-gt-LEAF_ROOM g c =
           absurd (records_fit k law s₀ whole c.args.key.now s held (header_of c.args.header)
           c.per_page.result c.record_width.result is
           (c.per_page.ensures ∙ ap (λ x. (chosen x).per_page) c.shape-shape.ensures) c.record_width.ensures
-          c.if-per_page-record_width-gt-LEAF_ROOM.true);
+          c.in_err-keep.ensures.0);
     }
 
 pub returns-then-key-key_width : goal.returns-then-key-key_width
@@ -40,14 +40,13 @@ returns g c =
     let law = g.met.K.RecordKind.lawful c.args.kind.now in
     let header = c.args.header in
     let s₀ = g.S.PageStore.state c.args.store.now in
-    let s₁ = g.S.PageStore.state c.find_from.new.store in
+    let s₁ = g.S.PageStore.state c.in_tree.new.store in
     let whole = g.S.PageStore.lawful c.args.store.now in
     record {
-      looked = looked_more s₀ s₁ _ (3 * header.levels) c.find_from.ensures.looked
-          (omega (arith, c.levels.ensures, header.standing));
+      looked = looked_more s₀ s₁ _ (3 * header.levels) c.in_tree.ensures.looked (omega (arith, c.levels.ensures));
       answer = λ s held is valid.
           told_from_root k law s₀ whole c.args.key.now s held (header_of header) (chosen c.shape-shape.result)
-          c.used.result (c.levels.result - 1) c.root.result c.find_from.result is
+          c.used.result (c.levels.result - 1) c.root.result c.in_tree.result is
           (ap chosen c.shape-shape.ensures) c.used.ensures (ap (λ n. n - 1) c.levels.ensures)
-          c.root.ensures (λ t good o at. c.find_from.ensures.answer t good o at valid);
+          c.root.ensures (λ t good o at. c.in_tree.ensures.answer t good o at valid);
     }

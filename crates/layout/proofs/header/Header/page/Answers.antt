@@ -1,4 +1,4 @@
-use Rattle.std.proofs.Common.{[], sym, refl, ap, ◌∙◌}
+use Rattle.std.proofs.Common.{sym, ap, ◌∙◌}
 use Rattle.layout.specs.Pages.{padded}
 use Rattle.layout.specs.Header.{header_of}
 use Rattle.layout.proofs.HeaderPage.{front_is}
@@ -6,5 +6,4 @@ use Rattle.layout.proofs.header.Header.page.Goals as goal
 
 pub returns : goal.returns
 returns c =
-    c.append.ensures [] refl refl ∙ ap padded c.front.ensures
-    ∙ sym (front_is c.args.kind (header_of c.args.self.now))
+    c.copied.ensures ∙ ap padded c.front.ensures ∙ sym (front_is c.args.kind (header_of c.args.self.now))

@@ -3,4 +3,4 @@ use Rattle.stores.specs.Places.{length-contents}
 use Rattle.stores.proofs.plain.PlainStorePageStore.size.Goals as goal
 
 pub returns : goal.returns
-returns c = omega (arith, length-contents 65535 c.args.self.now.area.now)
+returns c = omega (arith, length-contents 65535 c.args.self.now.area.bytes.now)

@@ -1,12 +1,16 @@
-use Rattle.std.proofs.Common.{◌∙◌, arith}
-use Rattle.std.proofs.lemmas.List.{length-set}
-use Rattle.std.proofs.lemmas.List.Edits.{fill_by_more}
+use Rattle.std.proofs.Common.{◌≡◌, ℕ, ◌<◌, get_or, arith, rules}
 use Rattle.stores.proofs.shifting.Table.new.Goals as goal
 
-pub loop-i-preserved : goal.loop-i-preserved
-loop-i-preserved c =
-    let t = c.loop-i.places in
-    let i = c.loop-i.i in (
-      length-set t i i ∙ c.loop-i.invariant.0,
-      fill_by_more (λ k. k) t i 0 (omega (arith, c.loop-i.invariant.0)) c.loop-i.invariant.1,
-    )
+pub returns-clause-places : goal.returns-clause-places
+returns-clause-places c = λ p h. let called = c.from_fn.ensures.items.at p 0 (omega arith) in search rules
+
+pub invariant_of-result : goal.invariant_of-result
+invariant_of-result c =
+    let own : (p : ℕ) → p < 1024 → get_or c.from_fn.result p 0 ≡ p =
+    λ p h. let called = c.from_fn.ensures.items.at p 0 h in search rules in
+    record {
+      few = c.requires;
+      spared = omega arith;
+      inside = λ p h. let e = own p (omega arith) in (omega arith, λ same. omega (arith, same));
+      apart = λ p q h. let e = own p (omega arith) in let f = own q (omega arith) in omega arith;
+    }

@@ -1,5 +1,0 @@
-use Rattle.replay.proofs.Decimals.{Left}
-use Rattle.replay.proofs.words.decimal.Given as goal
-
-abbrev pub invariant-loop-b : goal.invariant-loop-b
-invariant-loop-b l = Left l.text l.b-index l.n
