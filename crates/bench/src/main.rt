@@ -17,13 +17,13 @@ use std::{env, io, iter};
 use stores::{PageStore, PlainStore};
 
 // 994 nodes on five levels; the leaf nodes are full.
-const TREE: Wish<'static> = Wish {
+const TREE: Wish = Wish {
     kind: KindName::Ticket,
     fanout: 8,
     capacity: 100,
     per_page: 27,
     levels: 5,
-    children: &[3, 6, 6, 8],
+    children: [3, 6, 6, 8, 0, 0, 0, 0, 0],
     inner_entries: 60,
     leaf_entries: 100,
     first: 1,

@@ -20,7 +20,7 @@ fn marks(items: &[Item]) -> u64 {
 // The pages of a plan, as far as they are written.
 #[derive(Drop)]
 struct Image<'a> {
-    plan: &'a Plan<'a>,
+    plan: &'a Plan,
     heap: Global,
     area: Vec<u8>,
 }
@@ -136,7 +136,7 @@ impl Image<'_> {
     }
 }
 
-impl Plan<'_> {
+impl Plan {
     // E: the entries of a full leaf page, at least one.
     fn per_page(&self) -> Result<usize, BuildFault>
         ensures { IfOk result (λ n. 0 < n) }

@@ -9,7 +9,7 @@ use std::ops::Range;
 
 // How large a tree is to be.
 #[derive(Clone, Copy)]
-pub struct Wish<'a> {
+pub struct Wish {
     pub kind: KindName,
     // f, σ and E
     pub fanout: u8,
@@ -17,8 +17,9 @@ pub struct Wish<'a> {
     pub per_page: u8,
     // h: the levels from the root to the leaf nodes, both counted; a wish of none is one too
     pub levels: u8,
-    // the children of a node, level by level; the lowest level has none
-    pub children: &'a [u8],
+    // the children of a node, by its depth; the lowest level has none. The nine places are the wish's own, so that a plan
+    // lends nothing and a caller may hand it on
+    pub children: [u8; 9],
     pub inner_entries: u32,
     pub leaf_entries: u32,
     // the number of the first key, and how far the keys in a leaf node stand apart
@@ -49,23 +50,30 @@ pub struct Node {
 
 // The nodes level by level from the root, each level from left to right.
 #[derive(Drop)]
-pub struct Plan<'a> {
-    pub wish: Wish<'a>,
+pub struct Plan {
+    pub wish: Wish,
     pub nodes: Vec<Node>,
 }
 
-impl Wish<'_> {
-    // The children of a node on each level above the lowest.
-    fn fans(&self) -> Result<&[u8], BuildFault> {
-        let inner = usize::from(self.levels).saturating_sub(1);
-        self.children.get(..inner).ok_or(BuildFault::Missing)
+impl Wish {
+    // The levels above the lowest.
+    fn inner_levels(&self) -> usize {
+        usize::from(self.levels).saturating_sub(1)
+    }
+
+    // The children of a node of this depth.
+    fn fan(&self, depth: usize) -> Result<u32, BuildFault> {
+        if depth >= self.inner_levels() {
+            return Ok(0);
+        }
+        let fan = self.children.get(depth).ok_or(BuildFault::Missing)?;
+        Ok(u32::from(*fan))
     }
 
     // The leaf nodes below a node of this depth.
     fn leaves_below(&self, depth: usize) -> Result<u32, BuildFault> {
-        self.fans()?
-            .iter()
-            .skip(depth)
+        let fans = self.children.iter().take(self.inner_levels());
+        fans.skip(depth)
             .try_fold(1, |leaves, fan| times(leaves, u32::from(*fan)))
     }
 
@@ -90,17 +98,18 @@ fn level_list(heap: Global, wish: &Wish) -> Result<Vec<Level>, BuildFault> {
     let mut levels = Vec::new(heap);
     let mut width = 1;
     let mut first = 0;
-    let fans = wish.fans()?.iter().copied().chain([0]);
-    for (depth, fan) in fans.take(usize::from(wish.levels)).enumerate() {
-        let fan = u32::from(fan);
+    for depth in 0..wish.levels {
+        let leaves = wish.leaves_below(usize::from(depth))?;
+        let behind = plus(first, width)?;
+        let fan = wish.fan(usize::from(depth))?;
         levels.push(Level {
-            depth: u8::try_from(depth)?,
+            depth,
             width,
             first,
             fan,
-            leaves: wish.leaves_below(depth)?,
+            leaves,
         })?;
-        first = plus(first, width)?;
+        first = behind;
         width = times(width, fan)?;
     }
     Ok(levels)
@@ -124,13 +133,13 @@ fn start_list(heap: Global, wish: &Wish) -> Result<Vec<u32>, BuildFault> {
 #[derive(Drop)]
 struct Ground<'a> {
     heap: Global,
-    wish: &'a Wish<'a>,
+    wish: &'a Wish,
     levels: Vec<Level>,
     starts: Vec<u32>,
 }
 
 impl<'a> Ground<'a> {
-    fn new(heap: Global, wish: &'a Wish<'a>) -> Result<Ground<'a>, BuildFault> {
+    fn new(heap: Global, wish: &'a Wish) -> Result<Ground<'a>, BuildFault> {
         Ok(Ground {
             heap,
             wish,
@@ -227,10 +236,10 @@ fn entry_of(items: &[Item], key: u32) -> Option<Item>
     items.iter().copied().find(|item| item.key == key)
 }
 
-impl<'a> Plan<'a> {
+impl Plan {
     // The plan of a wish.
-    pub fn new(heap: Global, wish: Wish<'a>) -> Result<Plan<'a>, BuildFault>
-        ensures { IfOk result (λ p. p.wish ≡ wish.entry) }
+    pub fn new(heap: Global, wish: Wish) -> Result<Plan, BuildFault>
+        ensures { IfOk result (λ p. p.wish ≡ wish) }
     {
         let ground = Ground::new(heap, &wish)?;
         let mut nodes = Vec::new(heap);

@@ -511,7 +511,7 @@ impl Trial<'_> {
 }
 
 // A store of these trees, damaged in every way; at the end it is whole again, and opens.
-fn damaged(scribe: Scribe, text: &str, store: Store, wish: Wish<'static>) -> anyhow::Result<()> {
+fn damaged(scribe: Scribe, text: &str, store: Store, wish: Wish) -> anyhow::Result<()> {
     scribe.note(text)?;
     let trial = Trial::lay(scribe, store, wish, 2)?;
     trial.all_rules()?;

@@ -1,8 +1,7 @@
 // Damage: writes a script for `replay` to standard output: stores that open, with finds, and stores that are damaged in
 // one place, for every rule of the layout and every refusal of open. With the argument `answers` it writes what replay
 // must answer, without the touches, by what it knows of the trees that it made; it does not ask the index. With
-// `store FILE` it writes the file that the stored run of `payout` reads. It is for tests only, and uses `builder` and
-// `script_words`.
+// `store FILE` it writes the file that the stored run of `payout` reads. It is for tests only, and uses `builder`.
 #![tactic(auto)]
 
 mod broken;

@@ -1,8 +1,25 @@
 // What is written: the script, or the answers that it must get.
 use builder::KindName;
-use script_words::Hex;
 use std::alloc::Global;
 use std::{fmt, io};
+
+// Bytes in hex, "-" for none. It is no part of `script_words`, by which replay prints: so what replay prints is compared
+// with what was made apart from it.
+#[derive(Clone, Copy)]
+struct Hex<'a>(&'a [u8]);
+
+impl fmt::Display for Hex<'_> {
+    fn fmt<W: fmt::Write>(&self, f: &mut fmt::Formatter<W>) -> fmt::Result {
+        if self.0.is_empty() {
+            return f.write_str("-");
+        }
+        for b in self.0 {
+            let b = *b;
+            write!(f, "{b:02x}")?;
+        }
+        Ok(())
+    }
+}
 
 // What the program writes.
 #[derive(Debug, Clone, Copy, PartialEq, Eq)]

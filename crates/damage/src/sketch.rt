@@ -6,7 +6,7 @@ use std::alloc::Global;
 
 #[derive(Drop)]
 pub(crate) struct Sketch {
-    pub plan: Plan<'static>,
+    pub plan: Plan,
     pub image: Vec<u8>,
     pub pages: u32,
 }
@@ -26,7 +26,7 @@ fn ink(page: &[u8]) -> Option<(u32, &[u8])> {
 
 impl Sketch {
     // The tree of a wish on a store with room for so many more slots.
-    pub(crate) fn new(heap: Global, wish: Wish<'static>, spare: u32) -> anyhow::Result<Sketch> {
+    pub(crate) fn new(heap: Global, wish: Wish, spare: u32) -> anyhow::Result<Sketch> {
         let plan = Plan::new(heap, wish)?;
         let slots = small(plan.nodes.len()).saturating_add(spare);
         let pages = plan.slot_pages()?.saturating_mul(slots).saturating_add(1);
@@ -55,7 +55,7 @@ impl<'s> Trial<'s> {
     pub(crate) fn lay(
         scribe: Scribe<'s>,
         store: Store,
-        wish: Wish<'static>,
+        wish: Wish,
         spare: u32,
     ) -> anyhow::Result<Trial<'s>> {
         let sketch = Sketch::new(scribe.heap(), wish, spare)?;

@@ -10,7 +10,7 @@ use std::alloc::{AllocError, Global};
 #[derive(Clone, Copy)]
 struct Case {
     text: &'static str,
-    wish: Wish<'static>,
+    wish: Wish,
     step: u32,
 }
 

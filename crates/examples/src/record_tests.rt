@@ -1,5 +1,5 @@
 // Tickets: which keys and values are valid, and in which order keys stand.
-use limit_kinds::{LEAST, NARROW, WIDEST};
+use limit_kinds::{Least, Narrow, Widest};
 use records::{PoolLine, RecordKind, Ticket};
 use std::cmp::Ordering;
 
@@ -147,16 +147,16 @@ fn pool_lines_stand_by_course_day_and_later_race_first(rt: HostRuntime) {
 
 #[test]
 fn limit_kinds_do_not_begin_with_255(rt: HostRuntime) {
-    assert!(rt; LEAST.valid_key(&[254]) && !LEAST.valid_key(&[255]) && !LEAST.valid_key(&[1, 1]));
+    assert!(rt; Least.valid_key(&[254]) && !Least.valid_key(&[255]) && !Least.valid_key(&[1, 1]));
     assert!(rt;
-        NARROW.valid_key(&[0, 255, 255])
-            && NARROW.valid_value(&[0; 4])
-            && !NARROW.valid_value(&[0; 3])
+        Narrow.valid_key(&[0, 255, 255])
+            && Narrow.valid_value(&[0; 4])
+            && !Narrow.valid_value(&[0; 3])
     );
     assert!(rt;
-        WIDEST.valid_key(&[0; 24])
-            && WIDEST.valid_value(&[0; 64])
-            && !WIDEST.valid_value(&[255; 64])
+        Widest.valid_key(&[0; 24])
+            && Widest.valid_value(&[0; 64])
+            && !Widest.valid_value(&[255; 64])
     );
-    assert_eq!(rt; NARROW.compare(&[0, 2, 0], &[0, 1, 255]), Ordering::Greater);
+    assert_eq!(rt; Narrow.compare(&[0, 2, 0], &[0, 1, 255]), Ordering::Greater);
 }

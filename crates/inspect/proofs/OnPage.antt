@@ -1,30 +1,27 @@
 -- Parts of a page: bytes that are all zero, the first entry of a leaf page, and its mark word.
-use Rattle.std.proofs.Common.{◌≡◌, ℕ, suc, ◌-◌, ◌*◌, ◌^◌, ◌<◌, ◌≤◌, Bool, true, false, ◌&&◌, eqb, ltb, leb, List, ◌∷◌, [], get_or, drop, sym, refl, ap, ◌∙◌, inl, inr, pow-suc, arith, pow_mono}
-use Rattle.std.specs.Prelude.{◌↔◌, IsTrue, All}
-use Rattle.std.specs.List.{list_all}
-use Rattle.std.proofs.lemmas.List.Sums.{AllPass-from_list_all, list_all-from_AllPass}
+use Rattle.std.proofs.Common.{◌≡◌, ℕ, suc, ◌+◌, ◌-◌, ◌*◌, ◌^◌, ◌<◌, ◌≤◌, Bool, true, false, ◌&&◌, eqb, ltb, leb, List, ◌∷◌, length, max, get_or, drop, sym, refl, ap, ◌∙◌, inl, inr, pow-suc, arith, pow_mono}
+use Rattle.std.proofs.lemmas.List.{at_drop_more}
+use Rattle.std.proofs.lemmas.Bool.Decides.{nat_tests}
 use lib.Count.{count_leading_zeros, leading_length}
 use Rattle.std.specs.Str.{bytes_eq}
-use Rattle.std.proofs.lemmas.Bool.{eq-eqb, eqb-true, false≢true, false_from_ne_true, cases_lt, lt-leb, le-leb, le-ltb, lt-ltb}
+use Rattle.std.proofs.lemmas.Bool.{cases_lt, lt-leb, le-leb, le-ltb, lt-ltb}
 use Rattle.records.specs.Kind.{Kind}
 use Rattle.layout.specs.Checked.{zeros}
 use Rattle.layout.specs.LeafPages.{raw_entries, raw_entries_on, marks_on, good_first}
 use Rattle.layout.proofs.RawEntries.{raw_at, raw_drop}
 use Rattle.inspect.specs.Bounds.{key_on}
 
-zeros_listed : (xs : List ℕ) → list_all (λ b. eqb b 0) xs ≡ zeros xs
-zeros_listed [] = refl
-zeros_listed (b ∷ bs) = ap (λ z. eqb b 0 && z) (zeros_listed bs)
+-- one byte more, where the largest so far is m
+pub zeros_past :
+    (xs : List ℕ) (i m n : ℕ) → i < length xs → n ≡ max m (get_or xs i 0)
+    → (eqb n 0 && zeros (drop (i + 1) xs)) ≡ (eqb m 0 && zeros (drop i xs))
+zeros_past xs i m n h e =
+    let d : zeros (drop i xs) ≡ (eqb (get_or xs i 0) 0 && zeros (drop (i + 1) xs)) = at_drop_more zeros xs i 0 h in
+    rw d (grind (arith, nat_tests, e))
 
--- an answer that is true exactly where all bytes are zero
-pub zeros_are : (r : Bool) (xs : List ℕ) → (IsTrue r ↔ All (λ b. b ≡ 0) xs) → r ≡ zeros xs
-zeros_are true xs h =
-    sym (list_all-from_AllPass (λ b. eqb b 0) xs (λ k d lt. eq-eqb (get_or xs k d) 0 (h.0 refl k d lt)))
-    ∙ zeros_listed xs
-zeros_are false xs h =
-    sym (false_from_ne_true (zeros xs) (λ t.
-    let all = AllPass-from_list_all (λ b. eqb b 0) xs (zeros_listed xs ∙ t) in
-    false≢true (h.1 (λ k d lt. eqb-true (get_or xs k d) 0 (all k d lt)))))
+pub and_true : (a b : Bool) → b ≡ true → (a && b) ≡ a
+and_true true b e = e
+and_true false b e = refl
 
 module _ (kind : Kind) (t : ℕ) (page : List ℕ) where
   first_entry :

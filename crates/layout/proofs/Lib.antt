@@ -11,6 +11,7 @@ pub mod DTree
 pub mod NodePage
 pub mod SlotsListed
 pub mod Fits
+pub mod RowsFit
 pub mod Nodes
 pub mod Children
 pub mod WalkHolds
@@ -21,7 +22,6 @@ pub mod Inspection
 pub mod EmptyHeld
 pub mod Named
 pub mod WalkReads
-mod Halving
 pub mod Search
 pub mod Descent
 pub mod Inspected

@@ -5,9 +5,13 @@
 ghost use Rattle.std.specs.Prelude.{◌≡◌, ◌≤◌, length};
 ghost use Rattle.limit_kinds.specs.Limit.{starts, valid};
 
-pub mod limit;
+pub mod least;
+pub mod narrow;
+pub mod widest;
 
-pub use limit::{LEAST, Least, Limit, NARROW, Narrow, WIDEST, Widest};
+pub use least::Least;
+pub use narrow::Narrow;
+pub use widest::Widest;
 
 // No key and no value begins with this byte.
 const FORBIDDEN: u8 = 255;

@@ -34,7 +34,7 @@ fn usage(rt: &HostRuntime) -> io::Result<()> {
 }
 
 // The words of the command line behind the program's name.
-fn arguments(rt: &HostRuntime) -> io::Result<Vec<String>> {
+fn arguments(rt: &HostRuntime) -> anyhow::Result<Vec<String>> {
     Ok(env::args(rt)?.skip(1).collect(rt.alloc())?)
 }
 

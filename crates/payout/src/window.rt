@@ -104,7 +104,7 @@ impl<'a, S: PageStore + Drop> Window<'a, S> {
     }
 
     // The tickets of the arguments, three words each.
-    pub(crate) fn answer_words(&mut self, tickets: &[[String; 3]]) -> io::Result<()> {
+    pub(crate) fn answer_words(&mut self, tickets: &[[String; 3]]) -> anyhow::Result<()> {
         for [day, course, serial] in tickets {
             let text = format!(in self.rt.alloc(); "{day} {course} {serial}")?;
             let asked = TicketName::of_words(day.as_str(), course.as_str(), serial.as_str());

@@ -18,10 +18,6 @@ pub record Kind : Type 0 where
 abbrev pub record_width : Kind → ℕ
 record_width k = k.key_width + k.value_width
 
--- its constants in code
-abbrev pub Constants : Kind → ℕ → ℕ → ℕ → Type 0
-Constants k number key value = (k.number ≡ number) × (k.key_width ≡ key) × (k.value_width ≡ value)
-
 -- The order answers one of below, same and above on any two lists; only for valid keys is it an order of keys.
 pub record Lawful (k : Kind) : Type 0 where
   pub number_least : 1 ≤ k.number

@@ -4,12 +4,13 @@
 // alone. The numbers in records stand highest byte first, as on pages. It uses nothing but the language.
 #![tactic(auto)]
 
-ghost use Rattle.std.specs.Prelude.{◌≡◌, ◌+◌, ℕ, length};
-ghost use Rattle.records.specs.Kind.{Kind, Constants, Lawful, record_width};
+ghost use Rattle.std.specs.Prelude.{◌≡◌, ◌+◌, length};
+ghost use Rattle.records.specs.Kind.{Kind, Lawful, record_width};
 
 use std::cmp::Ordering;
 
 pub mod numbers;
+pub mod order;
 pub mod pool_line;
 pub mod pools;
 pub mod ticket;
@@ -26,37 +27,20 @@ pub trait RecordKind {
 
     const VALUE_BYTES: usize;
 
-    ghost KIND_NUMBER: { ℕ };
-
-    ghost KEY_BYTES: { ℕ };
-
-    ghost VALUE_BYTES: { ℕ };
-
     ghost model: { Self → Kind };
 
-    // The constants are those of what the kind means. It stands above the functions, so it is given with the type.
-    ghost constants: { (k : Self) → Constants (model k) KIND_NUMBER KEY_BYTES VALUE_BYTES };
-
-    // The kind's number, 1 to 255, which stands on page 0.
+    // The kind's number, 1 to 255, which stands on page 0. Each kind answers this and the widths itself: they may differ
+    // between two values of its type, so no constant is asked to be the model's.
     fn number(&self) -> u8
-        ensures { result ≡ (model self.now).number }
-    {
-        Self::KIND_NUMBER
-    }
+        ensures { result ≡ (model self.now).number };
 
     // The bytes of a key, 1 to 24.
     fn key_width(&self) -> usize
-        ensures { result ≡ (model self.now).key_width }
-    {
-        Self::KEY_BYTES
-    }
+        ensures { result ≡ (model self.now).key_width };
 
     // The bytes of a value, 1 to 64.
     fn value_width(&self) -> usize
-        ensures { result ≡ (model self.now).value_width }
-    {
-        Self::VALUE_BYTES
-    }
+        ensures { result ≡ (model self.now).value_width };
 
     fn valid_key(&self, key: &[u8]) -> bool
         ensures { result ≡ (model self.now).valid_key key.now };

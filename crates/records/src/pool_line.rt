@@ -1,5 +1,5 @@
 // Kind 2, the pool line: what was staked in one pool of one race on the same runners.
-ghost use Rattle.std.specs.Prelude.{◌≡◌, length, refl};
+ghost use Rattle.std.specs.Prelude.{◌≡◌, length};
 ghost use Rattle.records.specs.PoolLine.{line_fields, line_in_limits, line_kind};
 ghost use Rattle.records.specs.PoolLines.{line_lawful};
 
@@ -46,17 +46,21 @@ impl RecordKind for PoolLine {
 
     const VALUE_BYTES: usize = 8;
 
-    ghost KIND_NUMBER = { 2 };
-
-    ghost KEY_BYTES = { 9 };
-
-    ghost VALUE_BYTES = { 8 };
-
-    ghost constants = { λ k. (refl, refl, refl) };
-
     ghost model = { λ _. line_kind };
 
     ghost lawful = { λ k. line_lawful };
+
+    fn number(&self) -> u8 {
+        Self::KIND_NUMBER
+    }
+
+    fn key_width(&self) -> usize {
+        Self::KEY_BYTES
+    }
+
+    fn value_width(&self) -> usize {
+        Self::VALUE_BYTES
+    }
 
     fn valid_key(&self, key: &[u8]) -> bool {
         key.len() == Self::KEY_BYTES && line_in_limits(key)

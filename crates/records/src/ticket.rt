@@ -1,5 +1,5 @@
 // Kind 1, the ticket: one record for each ticket sold at a track.
-ghost use Rattle.std.specs.Prelude.{◌≡◌, length, refl};
+ghost use Rattle.std.specs.Prelude.{◌≡◌, length};
 ghost use Rattle.records.specs.Ticket.{ticket_fields, key_in_limits, value_in_limits, ticket_kind};
 ghost use Rattle.records.specs.Tickets.{ticket_lawful};
 
@@ -55,17 +55,21 @@ impl RecordKind for Ticket {
 
     const VALUE_BYTES: usize = 10;
 
-    ghost KIND_NUMBER = { 1 };
-
-    ghost KEY_BYTES = { 8 };
-
-    ghost VALUE_BYTES = { 10 };
-
-    ghost constants = { λ k. (refl, refl, refl) };
-
     ghost model = { λ _. ticket_kind };
 
     ghost lawful = { λ k. ticket_lawful };
+
+    fn number(&self) -> u8 {
+        Self::KIND_NUMBER
+    }
+
+    fn key_width(&self) -> usize {
+        Self::KEY_BYTES
+    }
+
+    fn value_width(&self) -> usize {
+        Self::VALUE_BYTES
+    }
 
     fn valid_key(&self, key: &[u8]) -> bool {
         key.len() == Self::KEY_BYTES && key_in_limits(key)

@@ -10,7 +10,7 @@ mod session;
 use crate::replay::{Counts, Replay};
 use anyhow::bail;
 use index::{Index, Status};
-use limit_kinds::{LEAST, NARROW, WIDEST};
+use limit_kinds::{Least, Narrow, Widest};
 use records::{PoolLine, RecordKind, Ticket};
 use script::{Command, KindName, StoreName, Wrong};
 use session::Session;
@@ -37,9 +37,9 @@ fn serve_store<'r, R: BufRead + Drop, S: PageStore + Drop>(
     match kind {
         KindName::Ticket => serve_index(replay, store, Ticket),
         KindName::PoolLine => serve_index(replay, store, PoolLine),
-        KindName::Narrow => serve_index(replay, store, NARROW),
-        KindName::Widest => serve_index(replay, store, WIDEST),
-        KindName::Least => serve_index(replay, store, LEAST),
+        KindName::Narrow => serve_index(replay, store, Narrow),
+        KindName::Widest => serve_index(replay, store, Widest),
+        KindName::Least => serve_index(replay, store, Least),
     }
 }
 

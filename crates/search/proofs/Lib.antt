@@ -1,3 +1,4 @@
+mod Halving
 mod Divided
 mod OnLeaf
 mod OnHead

@@ -9,6 +9,7 @@ ghost use Rattle.layout.specs.Pages.{ByteEntry, leaf_page};
 ghost use Rattle.layout.specs.Holds.{ValidKey};
 ghost use Rattle.search.specs.Found.{said_by, said_at, FoundPlace, GoodEntries, DTreeOn, PagesUpTo};
 
+use crate::rows::partition_point;
 use crate::sought::Sought;
 use layout::{PageFault, Row, Rule, copied, mark_word};
 use records::RecordKind;
@@ -75,7 +76,7 @@ impl<K: RecordKind> Sought<'_, K> {
         store.read(p, &mut page)?;
         Rule::LeafCount.keep(page[0] as usize == t, p)?;
         let row = Row::of_entries(self.kind, &page, t);
-        let below = row.partition_point(|key| self.order(key).is_lt());
+        let below = partition_point(row, |key| self.order(key).is_lt());
         let saying = self.saying_at(mark_word(&page), row, below);
         Ok(Place { below, saying })
     }
@@ -102,7 +103,7 @@ impl<K: RecordKind> Sought<'_, K> {
         Rule::HeadPage.keep(head[0] as usize == filled, p)?;
         let bytes: &[u8] = &head;
         let firsts = Row::of_keys(self.kind, &bytes[1..], filled);
-        Ok(firsts.partition_point(|key| self.order(key).is_le()))
+        Ok(partition_point(firsts, |key| self.order(key).is_le()))
     }
 
     // How many leaf pages the entries of a node fill.

@@ -15,6 +15,7 @@ ghost use Rattle.search.specs.Found.{BelongsTo, value_found};
 ghost use Rattle.search.specs.Nodes.{may_have, NodeOf, GoesOn, StepAt, SteppedDown};
 
 use crate::d_tree::{Saying, ValueBytes};
+use crate::rows::partition_point;
 use crate::sought::Sought;
 use layout::{Header, NodeParts, PageFault, Row, Rule, node_parts};
 use records::RecordKind;
@@ -71,7 +72,7 @@ impl<K: RecordKind> Sought<'_, K> {
     {
         let NodeParts { children, rest, .. } = node;
         let s_keys = Row::of_keys(self.kind, &rest[2 * children..], children - 1);
-        let i = s_keys.partition_point(|key| self.order(key).is_le());
+        let i = partition_point(s_keys, |key| self.order(key).is_le());
         u16::from_be_bytes([rest[2 * i], rest[2 * i + 1]]) as usize
     }
 

@@ -6,6 +6,7 @@
 
 mod d_tree;
 mod descent;
+mod rows;
 mod sought;
 
 pub use d_tree::ValueBytes;

@@ -22,7 +22,7 @@ pub(crate) struct Sought<'a, K: RecordKind> {
 
 impl<K: RecordKind> Sought<'_, K> {
     // How a key stands to the one that is sought.
-    pub fn order(&self, key: &[u8]) -> Ordering
+    pub(crate) fn order(&self, key: &[u8]) -> Ordering
         requires { length key.now ≡ (K.model self.now.kind.now).key_width }
         ensures { result ≡ (K.model self.now.kind.now).order key.now self.now.key.now }
     {

@@ -16,7 +16,8 @@ returns-else-self-eq0 g c =
     let k = g.K.RecordKind.model c.args.self.now.range.ground.kind.now in
     let row = c.of_entries-row.ensures in
     let key = c.key.result.now in
-    let is = rw (row.widths.0, row.widths.1, row.bytes) at c.key.ensures.key in
+    let many = row.count c.args.self.now.room in
+    let is = rw (row.widths.0, row.widths.1, row.bytes) at c.key.ensures.key (omega (arith, many)) in
     let first = c.args.first.now in
     first_is k c.args.self.now.count c.args.self.now.page.now first key c.eq.result (omega arith) is
     (same_from_decides c.eq.result (bytes_eq key first) (slice_eq-Decides Decides-eqb _ _ _ c.eq.ensures)

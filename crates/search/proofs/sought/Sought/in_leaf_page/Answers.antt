@@ -1,6 +1,7 @@
 use Rattle.std.proofs.Common.{rules, arith}
 use Rattle.std.specs.Ordering.{is_lt}
 use Rattle.stores.specs.Store.{page_at}
+use Rattle.layout.proofs.RowsFit.{entries_fit}
 use Rattle.search.proofs.OnLeaf.{leaf_found, leaf_there, leaf_counted}
 use Rattle.search.proofs.sought.Sought.in_leaf_page.Goals as goal
 
@@ -27,6 +28,7 @@ returns-clause-answer g c =
     let s₀ = g.S.PageStore.state c.args.store.now in
     let key = c.args.self.now.key.now in
     let row = c.of_entries-row in
+    let many = row.ensures.count (entries_fit c.args.t c.args.self.now.shape.per_page _ c.requires c.args.self.now.fits) in
     let below = c.partition_point-below in
     let d = below.ensures.divides (λ a. is_lt (k.order a key)) (λ a b e. search rules) in
     λ es held long good valid.
@@ -34,5 +36,5 @@ returns-clause-answer g c =
     row.result.key_width row.result.value_width row.result.count c.args.t c.mark_word.result
     (record { below = below.result; saying = c.saying_at-saying.result })
     c.in_ok-read.ensures.page held long (omega (arith, c.requires, c.args.self.now.shape.few)) good valid
-    row.ensures.widths row.ensures.count row.ensures.bytes c.mark_word.ensures d
+    row.ensures.widths many row.ensures.bytes c.mark_word.ensures d
     c.saying_at-saying.ensures

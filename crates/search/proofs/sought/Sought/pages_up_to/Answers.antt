@@ -1,7 +1,8 @@
-use Rattle.std.proofs.Common.{rules, ℕ, ◌-◌, ◌*◌, ◌≤◌, length, drop, ◌∙◌, mul-le-mul, arith}
+use Rattle.std.proofs.Common.{rules, ◌-◌, length, drop, ◌∙◌, arith}
 use Rattle.std.specs.Ordering.{is_le}
 use Rattle.std.proofs.lemmas.List.{take_rest, length-take, length-drop}
 use Rattle.stores.specs.Store.{page_at}
+use Rattle.layout.proofs.RowsFit.{keys_fit}
 use Rattle.search.proofs.OnHead.{head_divides, head_counted, head_there}
 use Rattle.search.proofs.sought.Sought.pages_up_to.Goals as goal
 
@@ -22,23 +23,6 @@ returns-in_err-keep-clause-answer g c =
     absurd (head_counted k law shape.per_page (page_at s₀.pages) c.args.p es shape.some on c.read.new.buffer
     c.args.filled c.in_ok-read.ensures.page n c.in_err-keep.ensures.0)
 
--- at most 16 keys of at most 24 bytes
-keys_fit : (n w : ℕ) → n ≤ 16 → w ≤ 24 → n * w ≤ 384
-keys_fit n w a b = omega (arith, mul-le-mul a b)
-
-pub of_keys-firsts-requires : goal.of_keys-firsts-requires
-of_keys-firsts-requires g c =
-    let k = g.K.RecordKind.model c.args.self.now.kind.now in
-    let law = g.met.K.RecordKind.lawful c.args.self.now.kind.now in
-    let head = c.read.new.buffer in
-    omega (
-      arith,
-      c.read.array_long,
-      length-take (length head - 1) (drop 1 head),
-      length-drop 1 head,
-      keys_fit c.args.filled k.key_width c.requires law.key_most,
-    )
-
 pub returns-clause-answer : goal.returns-clause-answer
 returns-clause-answer g c =
     let k = g.K.RecordKind.model c.args.self.now.kind.now in
@@ -47,10 +31,18 @@ returns-clause-answer g c =
     let key = c.args.self.now.key.now in
     let shape = c.args.self.now.shape in
     let row = c.of_keys-firsts in
+    let head = c.read.new.buffer in
+    let many = row.ensures.count (omega (
+      arith,
+      c.read.array_long,
+      length-take (length head - 1) (drop 1 head),
+      length-drop 1 head,
+      keys_fit c.args.filled k.key_width 16 c.requires law.key_most,
+    )) in
     let up = c.partition_point in
     let d = up.ensures.divides (λ a. is_le (k.order a key)) (λ a b e. search rules) in
     λ es n on valid.
     head_divides k law shape.per_page (page_at s₀.pages) c.args.p es shape.some on key c.read.new.buffer
     row.result.bytes.now row.result.key_width row.result.value_width row.result.count up.result valid
-    c.in_ok-read.ensures.page row.ensures.widths.0 row.ensures.widths.1 (row.ensures.count ∙ n)
+    c.in_ok-read.ensures.page row.ensures.widths.0 row.ensures.widths.1 (many ∙ n)
     (row.ensures.bytes ∙ take_rest c.read.new.buffer 1) d

@@ -1,6 +1,6 @@
 use Rattle.std.proofs.Common.{sym, ap, ◌∙◌, arith}
-use Rattle.layout.proofs.Halving.{halved_up, halved_down, halved_met}
-use Rattle.layout.proofs.rows.Row.partition_point.Goals as goal
+use Rattle.search.proofs.Halving.{halved_up, halved_down, halved_met}
+use Rattle.search.proofs.rows.partition_point.Goals as goal
 
 pub loop-low-preserved-then-passes : goal.loop-low-preserved-then-passes
 loop-low-preserved-then-passes g c =
@@ -8,7 +8,7 @@ loop-low-preserved-then-passes g c =
       omega (arith, i.0),
       i.1,
       λ test says.
-          let pass = ap test (sym c.key.ensures.key) ∙ sym (says c.key.result _ c.passes.ensures) ∙ c.if-passes.true in
+          let pass = ap test (sym (c.key.ensures.key (omega (arith, i.1)))) ∙ sym (says c.key.result _ c.passes.ensures) ∙ c.if-passes.true in
           halved_up _ _ c.loop-low.low c.loop-low.high (i.2 test says) _ pass,
     )
 
@@ -18,7 +18,7 @@ loop-low-preserved g c =
       omega (arith, i.0),
       omega (arith, i.1),
       λ test says.
-          let fail = ap test (sym c.key.ensures.key) ∙ sym (says c.key.result _ c.passes.ensures) ∙ c.if-passes.false in
+          let fail = ap test (sym (c.key.ensures.key (omega (arith, i.1)))) ∙ sym (says c.key.result _ c.passes.ensures) ∙ c.if-passes.false in
           halved_down _ _ c.loop-low.low c.loop-low.high (i.2 test says) _ fail,
     )
 
