@@ -16,7 +16,7 @@ pub struct Row<'a> {
     pub key_width: usize,
     pub value_width: usize,
     pub count: usize,
-    ghost room: { count * (key_width + value_width) ≤ length bytes.now },
+    pub ghost room: { count * (key_width + value_width) ≤ length bytes.now },
 }
 
 // So many, or none where so many of that width have no room.

@@ -8,7 +8,8 @@ loop-low-preserved-then-passes g c =
       omega (arith, i.0),
       i.1,
       λ test says.
-          let pass = ap test (sym (c.key.ensures.key (omega (arith, i.1)))) ∙ sym (says c.key.result _ c.passes.ensures) ∙ c.if-passes.true in
+          let here = c.key.ensures.key (omega (arith, i.1)) in
+          let pass = ap test (sym here) ∙ sym (says c.key.result _ c.passes.ensures) ∙ c.if-passes.true in
           halved_up _ _ c.loop-low.low c.loop-low.high (i.2 test says) _ pass,
     )
 
@@ -18,7 +19,8 @@ loop-low-preserved g c =
       omega (arith, i.0),
       omega (arith, i.1),
       λ test says.
-          let fail = ap test (sym (c.key.ensures.key (omega (arith, i.1)))) ∙ sym (says c.key.result _ c.passes.ensures) ∙ c.if-passes.false in
+          let here = c.key.ensures.key (omega (arith, i.1)) in
+          let fail = ap test (sym here) ∙ sym (says c.key.result _ c.passes.ensures) ∙ c.if-passes.false in
           halved_down _ _ c.loop-low.low c.loop-low.high (i.2 test says) _ fail,
     )
 
