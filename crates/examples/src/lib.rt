@@ -1,4 +1,4 @@
-// Worked examples as tests: tickets, pools, shapes, and a store formatted and closed. They stand in a crate of their
+// Worked examples as tests: tickets, pools, rows, shapes, and a store formatted and closed. They stand in a crate of their
 // own, since a crate with tests is proved twice. It may use every library.
 #![tactic(auto)]
 
@@ -6,6 +6,8 @@
 mod index_tests;
 #[cfg(test)]
 mod record_tests;
+#[cfg(test)]
+mod row_tests;
 #[cfg(test)]
 mod script_tests;
 #[cfg(test)]

@@ -1,5 +1,5 @@
 // Tickets: which keys and values are valid, and in which order keys stand.
-use limit_kinds::{Least, Narrow, Widest};
+use limit_kinds::{Least, Limit, Narrow, Widest};
 use records::{PoolLine, RecordKind, Ticket};
 use std::cmp::Ordering;
 
@@ -159,4 +159,31 @@ fn limit_kinds_do_not_begin_with_255(rt: HostRuntime) {
             && !Widest.valid_value(&[255; 64])
     );
     assert_eq!(rt; Narrow.compare(&[0, 2, 0], &[0, 1, 255]), Ordering::Greater);
+}
+
+type FiveAndNine = Limit<7, 5, 9>;
+
+#[test]
+fn a_limit_kind_has_any_number_and_widths(rt: HostRuntime) {
+    let kind: FiveAndNine = Limit {};
+    assert_eq!(rt;
+        (kind.number(), kind.key_width(), kind.value_width()),
+        (7, 5, 9)
+    );
+    assert_eq!(rt;
+        (
+            FiveAndNine::KIND_NUMBER,
+            FiveAndNine::KEY_BYTES,
+            FiveAndNine::VALUE_BYTES
+        ),
+        (7, 5, 9)
+    );
+    assert!(rt; kind.valid_key(&[254, 255, 0, 0, 0]) && !kind.valid_key(&[255, 0, 0, 0, 0]));
+    assert!(rt;
+        !kind.valid_key(&[0; 9]) && kind.valid_value(&[0; 9]) && !kind.valid_value(&[0; 5])
+    );
+    assert_eq!(rt;
+        kind.compare(&[0, 2, 0, 0, 0], &[0, 1, 255, 0, 0]),
+        Ordering::Greater
+    );
 }

@@ -1,5 +1,5 @@
 -- Entries in a row, and the place where a key divides them.
-use Rattle.std.specs.Prelude.{◌≡◌, ℕ, suc, ◌*◌, ◌<◌, ◌≤◌, Bool, true, false, List, take, drop}
+use Rattle.std.specs.Prelude.{◌≡◌, ℕ, suc, ◌+◌, ◌-◌, ◌*◌, ◌/◌, ◌<◌, ◌≤◌, Bool, true, false, List, take, drop}
 
 -- key i of a row, each w bytes wide and at the start of `stride` bytes
 abbrev pub key_in : (w stride : ℕ) → List ℕ → ℕ → List ℕ
@@ -15,3 +15,13 @@ pub record Divides (test : ℕ → Bool) (n r : ℕ) : Type 0 where
   pub within : r ≤ n
   pub left : (i : ℕ) → suc i ≡ r → test i ≡ true
   pub right : r < n → test r ≡ false
+
+-- the place in the middle between two ends
+abbrev pub halfway : (low high : ℕ) → ℕ
+halfway low high = low + (high - low) / 2
+
+-- A row of n places is halved down to two ends: the place in front of the low end passes, and the one at the high end
+-- does not. Where the two meet, the row is divided.
+pub record Halved (test : ℕ → Bool) (n low high : ℕ) : Type 0 where
+  pub left : (i : ℕ) → suc i ≡ low → test i ≡ true
+  pub right : high < n → test high ≡ false

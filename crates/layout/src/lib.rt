@@ -16,12 +16,14 @@ use shape::Shape;
 use stores::{Page, PageStore};
 
 pub mod faults;
+pub mod halving;
 pub mod header;
 pub mod laws;
 pub mod parts;
 pub mod rows;
 
 pub use faults::{OpenFault, PageFault, Rule};
+pub use halving::Halving;
 pub use header::{Header, HeaderNumbers};
 pub use parts::{NodeParts, mark_word, node_parts};
 pub use rows::{ENTRIES_AT, Row, copied};

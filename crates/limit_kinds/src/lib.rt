@@ -1,15 +1,18 @@
 // Record kinds at the edge of the widths, for tests and for scripts: what tickets never reach, such as 64 entries on a
-// leaf page, the widest and the narrowest record. They keep the laws of every kind. It uses the record kinds.
+// leaf page, the widest and the narrowest record; and one for any number and widths. They keep the laws of every kind. It
+// uses the record kinds.
 #![tactic(auto)]
 
 ghost use Rattle.std.specs.Prelude.{◌≡◌, ◌≤◌, length};
 ghost use Rattle.limit_kinds.specs.Limit.{starts, valid};
 
 pub mod least;
+pub mod limit;
 pub mod narrow;
 pub mod widest;
 
 pub use least::Least;
+pub use limit::Limit;
 pub use narrow::Narrow;
 pub use widest::Widest;
 

@@ -1,11 +1,7 @@
 -- A row halved again and again: the one in front of the low end passes, the one at the high end does not, and where the
 -- two ends meet is the place.
-use Rattle.std.proofs.Common.{◌≡◌, ℕ, suc, ◌+◌, ◌<◌, ◌≤◌, Bool, true, false, sym, ap, ◌∙◌, arith}
-use Rattle.layout.specs.Rows.{Divides}
-
-pub record Halved (test : ℕ → Bool) (n low high : ℕ) : Type 0 where
-  pub left : (i : ℕ) → suc i ≡ low → test i ≡ true
-  pub right : high < n → test high ≡ false
+use Rattle.std.proofs.Common.{◌≡◌, ℕ, ◌+◌, ◌≤◌, Bool, true, false, sym, ap, ◌∙◌, arith}
+use Rattle.layout.specs.Rows.{Divides, Halved}
 
 module _ (test : ℕ → Bool) (n low high : ℕ) (h : Halved test n low high) where
   pub halved_up : (middle : ℕ) → test middle ≡ true → Halved test n (middle + 1) high

@@ -1,5 +1,5 @@
 // The search in a row of keys, by halving. It stands here and not beside the rows of `layout`: a function that takes a
-// test has to ask that the test may be called, and no public function asks anything.
+// test has to ask that the test may be called, and no public function asks anything. Other crates have `Halving` there.
 ghost use Rattle.std.specs.Prelude.{◌≡◌, ℕ, ◌+◌, ◌≤◌, Bool, List, length};
 ghost use Rattle.std.specs.Borrow.{Bor};
 ghost use Rattle.layout.specs.Rows.{key_in, Divides};

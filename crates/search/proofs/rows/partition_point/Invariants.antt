@@ -1,6 +1,5 @@
 use Rattle.std.proofs.Common.{◌≡◌, ◌+◌, ◌≤◌, ◌-◌, ℕ, Bool, List, Bor}
-use Rattle.layout.specs.Rows.{key_in}
-use Rattle.search.proofs.Halving.{Halved}
+use Rattle.layout.specs.Rows.{key_in, Halved}
 use Rattle.search.proofs.rows.partition_point.Given as goal
 
 abbrev pub invariant-loop-low : goal.invariant-loop-low
